@@ -1,0 +1,2 @@
+-- Definitions on automata.
+pub mod Machine

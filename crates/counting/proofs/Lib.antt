@@ -1,0 +1,3 @@
+-- Laws on numbers and lists.
+pub mod Tabs
+pub mod Leasts

@@ -1,0 +1,3 @@
+-- Definitions on numbers and lists.
+pub mod Lists
+pub mod Least

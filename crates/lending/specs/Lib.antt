@@ -1,0 +1,2 @@
+-- Definitions on lent memory.
+pub mod Pairs

@@ -1,0 +1,10 @@
+-- Laws of the table file.
+pub mod Chains
+pub mod Dues
+pub mod Ranges
+pub mod Ways
+pub mod Openings
+pub mod Contents
+pub mod Places
+pub mod Outcomes
+pub mod Refusals

@@ -1,0 +1,5 @@
+-- The table file and the answers of calls.
+pub mod Answers
+pub mod Judging
+pub mod Rows
+pub mod Bodies
