@@ -3,3 +3,4 @@ pub mod Answers
 pub mod Judging
 pub mod Rows
 pub mod Bodies
+pub mod Encoding
