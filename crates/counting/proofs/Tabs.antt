@@ -1,11 +1,11 @@
 -- Laws of `tab` and `flat`: lengths, what stands at a place, a list as the tab of its elements.
 use mathlib.Core.Path.{_≡_, refl, sym, ap, ap₂, _∙_}
-use mathlib.Core.List.{List, [], _∷_, _++_, append-assoc}
+use mathlib.Core.List.{List, _∷_, _++_}
 use Prim.Native.Nat.{ℕ, zero, suc, _+_, _*_, _≤_, _<_}
-use native.Mathlib.Nat.{zero-add, add-zero, add-suc, suc-add, suc-mul, zero-mul, add-assoc, add-comm, le-of-suc-le-suc, not-suc-le-zero}
+use native.Mathlib.Nat.{zero-add, add-zero, add-suc, suc-add, suc-mul, zero-mul, add-comm, le-of-suc-le-suc, not-suc-le-zero}
 use native.Mathlib.Omega.{arith}
-use lib.ListN.{length, getD, drop, length-append, length-drop}
-use lib.Seq.{drop-cons, drop-drop}
+use lib.ListN.{length, getD, drop, length-append, List·getD-append}
+use lib.Seq.{drop-cons, getD-append-add}
 use Rattle.counting.specs.Lists.{tab, flat}
 
 pub tab-length {ℓ} : {A : Type ℓ} (n : ℕ) (f : ℕ → A) → length (tab n f) ≡ n
@@ -52,3 +52,20 @@ flat-tab c (suc n) g f h =
     (h zero (omega arith) ∙ tab-cong c (λ j l. ap f (rw zero-mul (zero-add j))))
     (flat-tab c n (λ i. g (suc i)) (λ j. f (c + j)) (λ i l. h (suc i) (omega arith) ∙ tab-cong c (λ j m. ap f (rw suc-mul (omega arith)))))
     ∙ sym (tab-add c (n * c) f))
+
+-- lists of one width c, one behind the other: their length, and the element j of the list i
+module _ {ℓ} {A : Type ℓ} (c : ℕ) where
+  pub flat-length : (n : ℕ) (g : ℕ → List A) → ((i : ℕ) → length (g i) ≡ c) → length (flat n g) ≡ n * c
+  unfolding flat
+  flat-length zero g h = sym (zero-mul c)
+  flat-length (suc n) g h =
+      rw (suc-mul, length-append) (omega (arith, h zero, flat-length n (λ i. g (suc i)) (λ i. h (suc i))))
+
+  pub flat-at : (n : ℕ) (g : ℕ → List A) (d : A) → ((i : ℕ) → length (g i) ≡ c) → (i j : ℕ) → i < n → j < c → getD (flat n g) (i * c + j) d ≡ getD (g i) j d
+  unfolding flat
+  flat-at zero g d h i j l m = absurd (not-suc-le-zero l)
+  flat-at (suc n) g d h zero j l m = rw (zero-mul, zero-add) (List·getD-append (g zero) _ d j (rw (h zero) m))
+  flat-at (suc n) g d h (suc i) j l m =
+      ap (λ (x : ℕ). getD (flat (suc n) g) x d) (rw suc-mul (omega (arith, h zero)))
+      ∙ getD-append-add (g zero) _ (i * c + j) d
+      ∙ flat-at n (λ i. g (suc i)) d (λ i. h (suc i)) i j (le-of-suc-le-suc l) m

@@ -1,5 +1,5 @@
 -- Laws of `andThen` and `refuse`: a chain of judgements stops at its first refusal, and goes on behind each part that gives.
-use mathlib.Core.Path.{_≡_, refl, sym, ap}
+use mathlib.Core.Path.{_≡_}
 use mathlib.Core.Bool.{Bool, true, false}
 use mathlib.Core.List.{List, []}
 use Prim.Native.Nat.{ℕ}

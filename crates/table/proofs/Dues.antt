@@ -1,7 +1,6 @@
 -- The ways out of a due field, each with its facts, and that there is no other.
-use mathlib.Core.Path.{_≡_, refl, sym, ap, _∙_}
+use mathlib.Core.Path.{_≡_}
 use mathlib.Core.Logic.{_≢_}
-use mathlib.Core.Bool.{Bool, true, false, not}
 use mathlib.Core.List.{List, [], _∷_}
 use Prim.Native.Nat.{ℕ, _+_, _≤_, _<_}
 use native.Mathlib.Decide.{ℕ-discrete, decLt}
@@ -10,7 +9,7 @@ use borrow.Author.Tests.{lt-ltb, le-ltb, eq-eqb, ne-eqb}
 use lib.ListN.{length, getD}
 use Rattle.counting.specs.Least.{pick}
 use Rattle.lending.specs.Pairs.{pairAt}
-use Rattle.table.specs.Answers.{Said, gives, refuses}
+use Rattle.table.specs.Answers.{gives, refuses}
 use Rattle.table.specs.Judging.{_andThen_, refuse, fieldDue}
 use Rattle.table.specs.Rows.{Whole, Cut, head, body}
 

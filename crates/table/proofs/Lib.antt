@@ -6,5 +6,9 @@ pub mod Ways
 pub mod Openings
 pub mod Contents
 pub mod Places
+pub mod Uniqueness
 pub mod Outcomes
 pub mod Refusals
+pub mod Readers
+pub mod Pieces
+pub mod Encodings

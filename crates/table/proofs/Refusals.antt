@@ -1,19 +1,16 @@
 -- Each refusal is given exactly when the paper's table says so, and a file is accepted exactly when it is right.
-use mathlib.Core.Path.{_≡_, refl, sym, ap, subst₂, _∙_}
+use mathlib.Core.Path.{_≡_, sym, ap, subst₂, _∙_}
 use mathlib.Core.Logic.{_↔_}
 use mathlib.Core.List.{List, [], _∷_}
-use Prim.Native.Nat.{ℕ, zero, suc, _+_, _*_, _≤_, _<_}
+use Prim.Native.Nat.{ℕ, zero, suc, _+_, _*_}
 use native.Mathlib.Nat.{le-of-eq}
 use native.Mathlib.Omega.{arith}
 use borrow.Author.Tests.{lt-ltb, le-ltb, le-leb, lt-leb}
-use lib.Dec.{ltb, leb}
-use lib.ListN.{length, getD}
-use Rattle.counting.specs.Least.{least}
+use lib.ListN.{length}
 use Rattle.counting.proofs.Leasts.{least-first, least-none}
-use Rattle.lending.specs.Pairs.{pairAt}
 use Rattle.table.specs.Answers.{gives, refuses}
-use Rattle.table.specs.Judging.{_andThen_, refuse, fieldDue, sizesDue, marksDue, nextsDue, judged, badMark, badNext, statesOf, signsOf, startOf, endOf}
-use Rattle.table.specs.Rows.{Whole, SizesRight, MarksRight, NextsRight, Right, Due, first, second, third, Given, Row1, Row2, Row3, Row4, Row5, Row6, Row7, Row8}
+use Rattle.table.specs.Judging.{fieldDue, sizesDue, marksDue, nextsDue, judged, badMark, badNext, statesOf, signsOf, startOf, endOf}
+use Rattle.table.specs.Rows.{SizesRight, MarksRight, NextsRight, Right, Due, first, second, third, Given, Row1, Row2, Row3, Row4, Row5, Row6, Row7, Row8}
 use Rattle.table.proofs.Chains.{stops, goes-on, refused, passed}
 use Rattle.table.proofs.Dues.{cut, wrong-tag, wrong-size}
 use Rattle.table.proofs.Ways.{sizes-cut, sizes-range, sizes-start, sizes-good, marks-cut, marks-bad, marks-good, nexts-cut, nexts-bad, nexts-good}

@@ -4,7 +4,7 @@ ghost use Prim.Native.Nat.{_+_, _*_, _<_, _≤_};
 ghost use lib.ListN.{length, getD};
 ghost use Rattle.lending.specs.Pairs.{pairAt};
 ghost use Rattle.table.specs.Rows.{InRange};
-ghost use Rattle.table.specs.Bodies.{part, bodyIn, bodyOf};
+ghost use Rattle.table.specs.Bodies.{bodyIn, bodyOf, PartOf, FieldOf};
 use crate::answer::Judged;
 use crate::answer::Part;
 use crate::answer::Sizes;
@@ -57,8 +57,7 @@ pub fn part_of(file: &[u8], number: usize) -> Part
 // A part of the file, handed back.
 pub fn slice_of(file: &[u8], place: usize, size: usize) -> &[u8]
     requires { ⌜ place + size ≤ length (now file) ⌝ }
-    ensures bytes { λ r. ⌜ now r ≡ part (now (file .entry)) place size ⌝ }
-    ensures stands { λ r. ⌜ (r .ptr .0 ≡ file .entry .ptr .0) × (r .ptr .1 ≡ place + file .entry .ptr .1) ⌝ }
+    ensures { λ r. ⌜ PartOf (file .entry) place size r ⌝ }
 {
     let end = place + size;
     &file[place..end]
@@ -67,8 +66,7 @@ pub fn slice_of(file: &[u8], place: usize, size: usize) -> &[u8]
 // The body of field 1, 2 or 3 as the part of the lent file where it stands; the empty part at its start for a refused file or any
 // other number.
 pub fn field(file: &[u8], number: usize) -> &[u8]
-    ensures bytes { λ r. ⌜ now r ≡ part (now (file .entry)) (bodyOf (now (file .entry)) number .place) (bodyOf (now (file .entry)) number .length) ⌝ }
-    ensures stands { λ r. ⌜ (r .ptr .0 ≡ file .entry .ptr .0) × (r .ptr .1 ≡ bodyOf (now (file .entry)) number .place + file .entry .ptr .1) ⌝ }
+    ensures { λ r. ⌜ FieldOf (file .entry) number r ⌝ }
 {
     let part = part_of(file, number);
     let place = part.place;

@@ -34,13 +34,16 @@ pub fn read_field(file: &[u8], at: usize, tag: u8, size: usize) -> Step
             place: at,
         });
     }
-    if pair_at(file, at + 1) != size {
+    let length_at = at + 1;
+    let found = pair_at(file, length_at);
+    let end = body + size;
+    if found != size {
         return Step::Refused(Refusal {
             kind: Kind::Length,
-            place: at + 1,
+            place: length_at,
         });
     }
-    if file.len() < body + size {
+    if file.len() < end {
         return Step::Refused(Refusal {
             kind: Kind::Short,
             place: file.len(),
@@ -82,7 +85,8 @@ pub fn read_sizes(file: &[u8]) -> Judged
     let states = pair_at(file, 3);
     let signs = pair_at(file, 5);
     let start = pair_at(file, 7);
-    if is_outside(states, signs) {
+    let outside = is_outside(states, signs);
+    if outside {
         return Judged::Refused(Refusal {
             kind: Kind::Range,
             place: 3,

@@ -1,6 +1,4 @@
 -- Answers as structs of numbers: number 0 with the values, or the refusal's number and place with zeros.
-use mathlib.Core.List.{List}
-use Prim.Native.Nat.{ℕ}
 use lib.ListN.{getD}
 use Rattle.table.specs.Answers.{Said, gives, refuses}
 use Rattle.table.specs.declared.answer.Part.{Part}

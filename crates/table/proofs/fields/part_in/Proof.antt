@@ -3,7 +3,6 @@
 use borrow.Author.Tests.{eq-eqb, ne-eqb}
 use Rattle.counting.specs.Least.{pick}
 use Rattle.table.specs.Bodies.{bodyIn}
-use native.Mathlib.Omega.{arith}
 use borrow.Author.Needs.{needs}
 use Rattle.table.proofs.fields.part_in.Statement.{statement}
 use Rattle.table.proofs.fields.part_in.Tie as tie

@@ -20,7 +20,9 @@ part-result-end : tie.Need-part-result-end
 part-result-end c = search needs
 
 returns : tie.Need-returns
-returns c = (between (now (c .before .args .file)) (c .before .args .place) (c .before .args .size), (refl, refl))
+returns c =
+    let a = c .before .args in
+    record { bytes = between (now (a .file)) (a .place) (a .size); block = refl; stands = refl }
 
 pub slice-of-spec : {M : Type 1} → statement M
 slice-of-spec = tie.close (tie.spec add-end sub-result part-result-start part-result-end returns)

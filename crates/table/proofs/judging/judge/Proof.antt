@@ -1,9 +1,9 @@
 -- `table::judging::judge` meets its contract: a refusal of a field is the file's, once the fields before it are right.
 -- Assumes nothing.
-use mathlib.Core.Path.{_≡_, sym, ap, ap₂, _∙_}
+use mathlib.Core.Path.{sym, ap, ap₂, _∙_}
 use Prim.Native.Nat.{ℕ, _+_, _*_}
 use denote.Ref.{now}
-use Rattle.table.specs.Answers.{refusal, refusalOf, told, toldStep}
+use Rattle.table.specs.Answers.{refusal, refusalOf, told}
 use Rattle.table.specs.Judging.{marksDue, nextsDue}
 use Rattle.table.specs.Rows.{MarksRight}
 use Rattle.table.proofs.Openings.{Sized, sized, marked, Nexted, nexted, accepted, closed}

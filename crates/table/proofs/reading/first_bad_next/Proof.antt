@@ -7,7 +7,6 @@ use native.Mathlib.Omega.{arith}
 use borrow.Author.Count.{below-none, below-more}
 use borrow.Author.Tests.{le-leb, lt-leb}
 use lib.Dec.{leb}
-use lib.ListN.{length, getD}
 use Rattle.counting.proofs.Leasts.{least-first, least-unique}
 use Rattle.lending.specs.Pairs.{pairAt}
 use Rattle.table.proofs.reading.first_bad_next.Statement.{statement}

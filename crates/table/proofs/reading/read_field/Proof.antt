@@ -23,22 +23,19 @@ returns-2 c =
     let a = c .before .before .before .before .args in
     sym (wrong-tag (now (a .file)) (a .at) (a .tag) (a .size) (c .before .before .if1 .left) (c .if2 .taken))
 
-add-pair-at : tie.Need-add-pair-at
-add-pair-at c = search needs
+add-length-at : tie.Need-add-length-at
+add-length-at c = search needs
 
 pair-at-requires : tie.Need-pair-at-requires
 pair-at-requires c κs = search needs
 
-add-t17 : tie.Need-add-t17
-add-t17 c = search needs
+add-end : tie.Need-add-end
+add-end c = search needs
 
 returns-3 : tie.Need-returns-3
 returns-3 c =
     let a = c .before .before .before .before .before .before .args in
     sym (wrong-size (now (a .file)) (a .at) (a .tag) (a .size) (c .before .before .before .before .if1 .left) (c .before .before .if2 .left) (λ e. c .if3 .taken (c .before .pair-at .ensures .0 ∙ e)))
-
-add-if4 : tie.Need-add-if4
-add-if4 c = search needs
 
 returns-4 : tie.Need-returns-4
 returns-4 c =
@@ -58,10 +55,9 @@ read-field-spec =
     returns
     shared-slice-read-if2
     returns-2
-    add-pair-at
+    add-length-at
     pair-at-requires
-    add-t17
+    add-end
     returns-3
-    add-if4
     returns-4
     returns-5)

@@ -1,0 +1,3 @@
+-- Laws on lent memory.
+pub mod Halves
+pub mod Grids

@@ -1,0 +1,22 @@
+-- What code reads in the parts handed out of a file is the machine of the file. Rests on the laws of parts.
+use mathlib.Core.Path.{_≡_}
+use mathlib.Core.List.{List}
+use Prim.Native.Nat.{ℕ, _+_, _*_, _<_}
+use native.Mathlib.Omega.{arith}
+use lib.Arith.{digits-lt}
+use lib.ListN.{getD}
+use Rattle.lending.specs.Pairs.{pairAt}
+use Rattle.table.specs.Judging.{statesOf, signsOf}
+use Rattle.table.specs.Bodies.{part}
+use Rattle.table.specs.Encoding.{machineOf}
+use Rattle.table.proofs.Contents.{part-at, part-pair}
+
+pub next-within : (n k q a : ℕ) → q < n → a < k → 2 * (q * k + a) + 1 < 2 * (n * k)
+next-within n k q a h l = omega (arith, digits-lt {q = q} {m = n} {r = a} {c = k} h l)
+
+module _ (file : List ℕ) where
+  pub mark-read : (q : ℕ) → q < statesOf file → getD (part file 12 (statesOf file)) q 0 ≡ machineOf file .kind q
+  mark-read q h = part-at file 12 _ q h
+
+  pub next-read : (q a : ℕ) → q < statesOf file → a < signsOf file → pairAt (part file (12 + statesOf file + 3) (2 * (statesOf file * signsOf file))) (2 * (q * signsOf file + a)) ≡ machineOf file .next q a
+  next-read q a h l = part-pair file (12 + statesOf file + 3) _ _ (next-within _ _ q a h l)

@@ -1,0 +1,11 @@
+// The comparison of the proved library with the second program: one module of tests a subject.
+// Rests on the library, linked as libwylgentip.a.
+
+mod comparison;
+mod damage;
+mod generate;
+mod interface;
+mod judging;
+mod second;
+
+const _: () = assert!(judging::LEAST_FILES >= 200_000);

@@ -1,0 +1,315 @@
+// The tests of the judging of a file and of the field reader.
+// Rests on comparison.rs, and on generate.rs and damage.rs for its files.
+
+use crate::comparison::Comparison;
+use crate::damage::damaged;
+use crate::generate::{
+    blank, chain, encode, fields, file_of, scattered, sizes_field, t1, t2, t3, table, Random,
+};
+use crate::interface::{self, Judged, Part};
+use crate::second;
+
+const OF_THE_PAPER: usize = 24;
+const CUT: usize = 1_500;
+const WITH_A_BYTE_CHANGED: usize = 50_000;
+const OF_SIZES_ALONE: usize = 78_000;
+const AT_THE_LIMITS: usize = 1_000;
+const ACCEPTED: usize = 30_000;
+const DAMAGED_ONCE: usize = 60_000;
+const DAMAGED_MORE: usize = 60_000;
+const RANDOM: usize = 40_000;
+const RANDOM_BEHIND_VALID: usize = 40_000;
+const LARGEST_AND_LONGER: usize = 3_000;
+
+/// Files the tests of this module compare at least.
+pub const LEAST_FILES: usize = OF_THE_PAPER
+    + CUT
+    + WITH_A_BYTE_CHANGED
+    + OF_SIZES_ALONE
+    + AT_THE_LIMITS
+    + ACCEPTED
+    + DAMAGED_ONCE
+    + DAMAGED_MORE
+    + RANDOM
+    + RANDOM_BEHIND_VALID
+    + LARGEST_AND_LONGER;
+
+const T1: [u8; 40] = [
+    1, 0, 6, 0, 5, 0, 2, 0, 0, 2, 0, 5, 0, 0, 1, 1, 0, 3, 0, 20, 0, 1, 0, 0, 0, 2, 0, 0, 0, 3, 0,
+    2, 0, 2, 0, 3, 0, 3, 0, 0,
+];
+
+const T1_SHRUNK: [u8; 30] = [
+    1, 0, 6, 0, 3, 0, 2, 0, 0, 2, 0, 3, 0, 0, 1, 3, 0, 12, 0, 1, 0, 0, 0, 2, 0, 0, 0, 2, 0, 2,
+];
+
+/// T1 with bytes changed: each a place and the byte it takes.
+fn t1_with(changes: &[(usize, u8)]) -> Vec<u8> {
+    let mut file = T1.to_vec();
+    for &(place, byte) in changes {
+        file[place] = byte;
+    }
+    file
+}
+
+fn and_one_more(mut file: Vec<u8>) -> Vec<u8> {
+    file.push(0);
+    file
+}
+
+#[test]
+fn samples_of_the_paper() {
+    let refused = Judged::refused;
+    let mut comparison = Comparison::new();
+    let cases: [(Vec<u8>, Judged); 24] = [
+        (vec![], refused(1, 0)),
+        (vec![1, 0], refused(1, 2)),
+        (t1_with(&[(0, 2)]), refused(2, 0)),
+        (t1_with(&[(2, 5)]), refused(4, 1)),
+        (t1_with(&[(4, 0)]), refused(5, 3)),
+        (t1_with(&[(8, 5)]), refused(6, 7)),
+        (t1_with(&[(16, 2)]), refused(7, 16)),
+        (t1_with(&[(39, 5)]), refused(8, 38)),
+        (and_one_more(T1.to_vec()), refused(3, 40)),
+        (encode(&blank(500, 64)), Judged::accepted(500, 64, 0)),
+        (encode(&blank(1_024, 31)), Judged::accepted(1_024, 31, 0)),
+        (encode(&blank(501, 64)), refused(5, 3)),
+        (encode(&blank(1_024, 32)), refused(5, 3)),
+        (encode(&t1()), Judged::accepted(5, 2, 0)),
+        (encode(&t2()), Judged::accepted(9, 2, 0)),
+        (encode(&t3()), Judged::accepted(6, 2, 0)),
+        (encode(&blank(1, 1)), Judged::accepted(1, 1, 0)),
+        (T1_SHRUNK.to_vec(), Judged::accepted(3, 2, 0)),
+        (vec![2], refused(1, 1)),
+        (vec![2, 0, 5], refused(2, 0)),
+        (vec![1, 0, 5], refused(4, 1)),
+        (t1_with(&[(35, 5)])[..39].to_vec(), refused(1, 39)),
+        (t1_with(&[(4, 0), (8, 5)]), refused(5, 3)),
+        (and_one_more(t1_with(&[(39, 5)])), refused(8, 38)),
+    ];
+    for (file, expected) in cases {
+        comparison.expect(&file, expected);
+    }
+    comparison.finish(OF_THE_PAPER);
+}
+
+#[test]
+fn t1_is_encoded_and_read_as_the_paper_has_it() {
+    assert_eq!(encode(&t1()), T1);
+    let bodies = [(0, 0), (3, 6), (12, 5), (20, 20), (0, 0)];
+    for (number, (place, length)) in bodies.into_iter().enumerate() {
+        assert_eq!(interface::field(&T1, number), Part { place, length });
+        let second = second::file::field(&T1, number);
+        assert_eq!((second.place, second.length), (place, length));
+    }
+}
+
+fn small_files() -> Vec<Vec<u8>> {
+    let random = &mut Random::new(1);
+    let tables = [
+        t1(),
+        t2(),
+        t3(),
+        blank(1, 1),
+        chain(random, 2, 1),
+        scattered(random, 1, 5),
+        scattered(random, 3, 3),
+    ];
+    tables.iter().map(encode).collect()
+}
+
+#[test]
+fn cut_at_every_length() {
+    let mut comparison = Comparison::new();
+    let mut files = small_files();
+    files.push(encode(&scattered(&mut Random::new(2), 257, 2)));
+    for file in files {
+        for length in 0..file.len() {
+            comparison.expect(&file[..length], Judged::refused(1, length));
+        }
+    }
+    comparison.finish(CUT);
+}
+
+#[test]
+fn each_byte_changed_to_every_value() {
+    let mut comparison = Comparison::new();
+    for mut file in small_files() {
+        for place in 0..file.len() {
+            let kept = file[place];
+            for byte in 0..=255 {
+                file[place] = byte;
+                comparison.compare(&file);
+            }
+            file[place] = kept;
+        }
+    }
+    comparison.met([0, 2, 4, 5, 6, 7, 8], 250);
+    comparison.finish(WITH_A_BYTE_CHANGED);
+}
+
+fn in_range(states: usize, signs: usize) -> bool {
+    (1..=1_024).contains(&states) && (1..=64).contains(&signs) && states * signs <= 32_000
+}
+
+/// A file that ends with field 1.
+fn compare_sizes(comparison: &mut Comparison, states: usize, signs: usize) {
+    let expected = match in_range(states, signs) {
+        true => Judged::refused(1, 9),
+        false => Judged::refused(5, 3),
+    };
+    comparison.expect(&file_of(&[sizes_field(states, signs, 0)]), expected);
+}
+
+#[test]
+fn sizes_in_and_out_of_range() {
+    let mut comparison = Comparison::new();
+    for states in 0..=1_100 {
+        for signs in 0..=70 {
+            compare_sizes(&mut comparison, states, signs);
+        }
+    }
+    let far = [255, 256, 257, 1_025, 4_096, 32_000, 32_768, 65_281, 65_535];
+    for states in far {
+        for signs in [0, 1, 64].into_iter().chain(far) {
+            compare_sizes(&mut comparison, states, signs);
+            compare_sizes(&mut comparison, signs, states);
+        }
+    }
+    comparison.finish(OF_SIZES_ALONE);
+}
+
+/// Whole files of these sizes, with the start at and beyond its own limit too.
+fn compare_whole(comparison: &mut Comparison, states: usize, signs: usize) {
+    let mut table = blank(states, signs);
+    for start in [0, states.saturating_sub(1), states, states + 1] {
+        table.start = start;
+        let expected = match (in_range(states, signs), start < states) {
+            (true, true) => Judged::accepted(states, signs, start),
+            (true, false) => Judged::refused(6, 7),
+            (false, _) => Judged::refused(5, 3),
+        };
+        comparison.expect(&encode(&table), expected);
+    }
+}
+
+#[test]
+fn whole_files_at_and_beyond_each_limit() {
+    let mut comparison = Comparison::new();
+    for states in [0, 1, 2, 499, 500, 501, 1_000, 1_001, 1_024, 1_025] {
+        for signs in [0, 1, 2, 31, 32, 33, 64, 65] {
+            compare_whole(&mut comparison, states, signs);
+        }
+    }
+    for signs in 1..=64 {
+        let most_states = (32_000 / signs).min(1_024);
+        for states in most_states - 1..=most_states + 1 {
+            compare_whole(&mut comparison, states, signs);
+        }
+    }
+    comparison.finish(AT_THE_LIMITS);
+}
+
+#[test]
+fn generated_tables() {
+    let mut comparison = Comparison::new();
+    for seed in 100_000..100_000 + ACCEPTED as u64 {
+        comparison.seeded(seed, |random, comparison| {
+            let table = table(random);
+            let expected = Judged::accepted(table.states(), table.signs, table.start);
+            comparison.expect(&encode(&table), expected);
+        });
+    }
+    comparison.finish(ACCEPTED);
+}
+
+#[test]
+fn generated_tables_damaged_once() {
+    let comparison = Comparison::generated(1_000_000, DAMAGED_ONCE, |random| {
+        let fields = fields(&table(random));
+        damaged(random, fields, 1)
+    });
+    comparison.met(0..=8, 1_000);
+    comparison.finish(DAMAGED_ONCE);
+}
+
+#[test]
+fn generated_tables_damaged_several_times() {
+    let comparison = Comparison::generated(2_000_000, DAMAGED_MORE, |random| {
+        let fields = fields(&table(random));
+        let times = random.between(2, 5);
+        damaged(random, fields, times)
+    });
+    comparison.met(1..=8, 500);
+    comparison.finish(DAMAGED_MORE);
+}
+
+#[test]
+fn random_bytes() {
+    let comparison = Comparison::generated(3_000_000, RANDOM, |random| {
+        let length = random.below(60);
+        let mut file = random.bytes(length);
+        if random.below(4) > 0 {
+            file.iter_mut().for_each(|byte| *byte %= 7);
+        }
+        file
+    });
+    comparison.met([1, 2, 4], 50);
+    comparison.finish(RANDOM);
+}
+
+#[test]
+fn random_bytes_behind_a_valid_beginning() {
+    let comparison = Comparison::generated(4_000_000, RANDOM_BEHIND_VALID, |random| {
+        let mut file = encode(&table(random));
+        file.truncate(random.below(file.len() + 1));
+        let length = random.below(80);
+        let most = random.one_of(&[2, 4, 256]);
+        file.extend((0..length).map(|_| random.below(most) as u8));
+        file
+    });
+    comparison.met(1..=8, 100);
+    comparison.finish(RANDOM_BEHIND_VALID);
+}
+
+#[test]
+fn the_largest_file_and_longer_ones() {
+    let mut comparison = Comparison::new();
+    comparison.seeded(5, |random, comparison| {
+        let file = encode(&scattered(random, 1_000, 32));
+        assert_eq!(file.len(), 65_015);
+        for length in (0..1_100)
+            .chain((1_100..65_000).step_by(97))
+            .chain(65_000..65_015)
+        {
+            comparison.expect(&file[..length], Judged::refused(1, length));
+        }
+        bad_marks_and_next_states(comparison, file.clone());
+        for more in [1, 2, 3, 520, 521, 522, 65_536, 1 << 20] {
+            let mut longer = file.clone();
+            longer.extend(random.bytes(more));
+            comparison.expect(&longer, Judged::refused(3, 65_015));
+            let mut longer = T1.to_vec();
+            longer.resize(T1.len() + more, 0);
+            comparison.expect(&longer, Judged::refused(3, 40));
+            comparison.compare(&random.bytes(65_015 + more));
+        }
+    });
+    comparison.finish(LARGEST_AND_LONGER);
+}
+
+/// Each in turn the first of its kind in the file of 1,000 states and 32 signs.
+fn bad_marks_and_next_states(comparison: &mut Comparison, mut file: Vec<u8>) {
+    let last = file.len() - 2;
+    file[last..].fill(255);
+    for place in (1_015..last).step_by(82).chain([last]) {
+        let kept = [file[place], file[place + 1]];
+        file[place..place + 2].copy_from_slice(&1_000_u16.to_be_bytes());
+        comparison.expect(&file, Judged::refused(8, place));
+        file[place..place + 2].copy_from_slice(&kept);
+    }
+    for place in (12..1_012).rev() {
+        file[place] = 2;
+        comparison.expect(&file, Judged::refused(7, place));
+    }
+}
