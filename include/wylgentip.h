@@ -1,0 +1,55 @@
+/* Wylgentip: the proved calls on recogniser tables, for C and for whatever links a static library.
+ *
+ * Link with target/staticlib/libwylgentip.a, which `rt staticlib wylgentip` writes.
+ * Every call takes any bytes and any lengths and returns; the caller checks nothing beforehand.
+ * A pointer that is lent with a length must point to that many bytes for the time of the call; with
+ * the length 0 nothing is read through it.
+ *
+ * Refusals. Each has a number and a place:
+ *    1  fewer than 3 bytes left for a field's head, or fewer than its length for its body: the file's length
+ *    2  the tag isn't the one due: the tag
+ *    3  bytes follow field 3: the first of them
+ *    4  a length isn't the one required: the length's first byte
+ *    5  n, k or n x k outside its range: 3
+ *    6  the start is n or more: 7
+ *    7  a mark is neither 0 nor 1: the first such mark
+ *    8  a next state is n or more: the first byte of the first such
+ */
+#ifndef WYLGENTIP_H
+#define WYLGENTIP_H
+
+#include <stddef.h>
+#include <stdint.h>
+
+#ifdef __cplusplus
+extern "C" {
+#endif
+
+/* number 0: the file is accepted, with n states, k signs and the start, and place is 0.
+ * Any other number is that of the refusal, and states, signs and start are 0. */
+typedef struct {
+    size_t number;
+    size_t place;
+    size_t states;
+    size_t signs;
+    size_t start;
+} wyl_judged;
+
+/* Judges the whole file. Refuses with 1 to 8. Reads the file and writes nothing. */
+wyl_judged wyl_judge(const uint8_t *file, size_t length);
+
+/* A part of the lent file: where it starts, counted from the file's first byte, and how many bytes it has. */
+typedef struct {
+    size_t place;
+    size_t length;
+} wyl_part;
+
+/* Where the body of field 1, 2 or 3 stands. For a file that is refused, and for any other number, the empty part
+ * at the file's start; the refusal itself is had from wyl_judge. Reads the file and writes nothing. */
+wyl_part wyl_field(const uint8_t *file, size_t length, size_t number);
+
+#ifdef __cplusplus
+}
+#endif
+
+#endif
