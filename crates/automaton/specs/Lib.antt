@@ -1,2 +1,7 @@
 -- Definitions on automata.
 pub mod Machine
+pub mod Words
+pub mod Layers
+pub mod Telling
+pub mod Reach
+pub mod Quotient

@@ -1,4 +1,4 @@
-// The machine, as a definition (specs/) and laws (proofs/). A crate has at least one function: this is it.
+// Automata, as definitions (specs/) and laws (proofs/). A crate has at least one function: this is it.
 ghost use mathlib.Core.Path.{_≡_};
 
 pub fn zero() -> usize

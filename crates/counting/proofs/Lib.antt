@@ -2,3 +2,8 @@
 pub mod Tabs
 pub mod Alls
 pub mod Leasts
+pub mod Tallies
+pub mod Names
+pub mod Thoses
+pub mod Pigeons
+pub mod Climbs

@@ -9,7 +9,7 @@ use native.Mathlib.Omega.{arith}
 use lib.Arith.{digits-lt}
 use lib.ListN.{length, getD, length-drop, drop-of-length-le}
 use Rattle.counting.specs.Lists.{tab}
-use Rattle.counting.proofs.Alls.{Every, every-cons, every-append, every-none, every-flat, every-tab}
+use Rattle.counting.proofs.Alls.{Every, every-cons, every-append, every-flat, every-tab}
 use Rattle.counting.proofs.Tabs.{tab-length, tab-at}
 use Rattle.automaton.specs.Machine.{Machine, Agree}
 use Rattle.lending.specs.Pairs.{pairAt, pair}
