@@ -1,4 +1,5 @@
 -- Laws on numbers and lists.
+pub mod Cases
 pub mod Tabs
 pub mod Alls
 pub mod Leasts
@@ -7,3 +8,5 @@ pub mod Names
 pub mod Thoses
 pub mod Pigeons
 pub mod Climbs
+pub mod Sums
+pub mod Logs

@@ -1,7 +1,7 @@
 -- Laws of `all`, `any`, `agree` and `count`: what they say of each number below the bound, and how counts compare.
 use mathlib.Core.Path.{_≡_, refl, sym, ap, ap₂, _∙_}
 use mathlib.Core.Logic.{_↔_}
-use mathlib.Core.Bool.{Bool, true, false, _&&_, _||_, true≢false, or-true}
+use mathlib.Core.Bool.{Bool, true, false, not, _&&_, _||_, true≢false, or-true}
 use mathlib.Core.List.{List}
 use Prim.Native.Nat.{ℕ, zero, suc, _+_, _≤_, _<_}
 use native.Mathlib.Nat.{not-suc-le-zero}
@@ -120,3 +120,46 @@ count-one n P h i j l m p q = elim (ℕ-discrete j i) [ yes e ↦ sym e | no u �
 
     more : (j ≡ i → ⊥) → count n (λ k. eqb k i) < count n P
     more u = count-more n _ _ (λ k s e. ap P (eqb-true k i e) ∙ p) j m (ne-eqb j i u) q
+
+pub count-none : (n : ℕ) (P : ℕ → Bool) → ((i : ℕ) → i < n → P i ≡ false) → count n P ≡ 0
+unfolding count pick
+count-none zero P h = refl
+count-none (suc n) P h = rw (h n (omega arith)) (omega (arith, count-none n P (λ i l. h i (omega arith))))
+
+part-disjoint : (a b : Bool) → (a ≡ true → b ≡ false) → pick a 1 0 + pick b 1 0 ≤ 1
+unfolding pick
+part-disjoint true true h = absurd (true≢false (h refl))
+part-disjoint true false h = omega arith
+part-disjoint false true h = omega arith
+part-disjoint false false h = omega arith
+
+-- no number passes both
+pub count-disjoint : (n : ℕ) (P Q : ℕ → Bool) → ((i : ℕ) → i < n → P i ≡ true → Q i ≡ false) → count n P + count n Q ≤ n
+unfolding count
+count-disjoint zero P Q h = omega arith
+count-disjoint (suc n) P Q h =
+    omega (arith, count-disjoint n P Q (λ i l. h i (omega arith)), part-disjoint (P n) (Q n) (h n (omega arith)))
+
+-- a count that is not 0 has counted one
+pub count-found : (n : ℕ) (P : ℕ → Bool) → 0 < count n P → (i : ℕ) × (i < n) × (P i ≡ true)
+unfolding count pick
+count-found zero P h = absurd (omega arith)
+count-found (suc n) P h = go (P n) refl (count-found n P) h
+  where
+    go : (b : Bool) → P n ≡ b → (0 < count n P → (i : ℕ) × (i < n) × (P i ≡ true)) → 0 < count n P + pick b 1 0 → (i : ℕ) × (i < suc n) × (P i ≡ true)
+    go true e r g = (n, omega arith, e)
+    go false e r g =
+        let (i, l, p) = r (omega arith) in
+        (i, omega arith, p)
+
+part-split : (a b : Bool) → pick (a && not b) 1 0 + pick (a && b) 1 0 ≡ pick a 1 0
+unfolding pick
+part-split true true = refl
+part-split true false = refl
+part-split false b = refl
+
+-- what passes does not pass another test, or does
+pub count-split : (n : ℕ) (P Q : ℕ → Bool) → count n (λ i. P i && not (Q i)) + count n (λ i. P i && Q i) ≡ count n P
+unfolding count
+count-split zero P Q = refl
+count-split (suc n) P Q = omega (arith, count-split n P Q, part-split (P n) (Q n))
