@@ -2,9 +2,11 @@
 use mathlib.Core.Path.{_≡_, refl, sym, ap, subst, _∙_}
 use mathlib.Core.Logic.{_↔_}
 use mathlib.Core.List.{List, [], _∷_, _++_}
-use Prim.Native.Nat.{ℕ, _≤_, _<_}
+use Prim.Native.Nat.{ℕ, zero, suc, _≤_, _<_}
 use native.Mathlib.Decide.{ℕ-discrete}
 use native.Mathlib.Omega.{arith}
+use lib.ListN.{length}
+use Rattle.counting.specs.Lists.{at}
 use Rattle.automaton.specs.Machine.{Machine, Lawful, Agree}
 use Rattle.automaton.specs.Words.{Word, steps, Same, Inseparable, Marked, Equivalent, Reached}
 
@@ -16,6 +18,17 @@ pub steps-append : (M : Machine) (q : ℕ) (v w : List ℕ) → steps M q (v ++ 
 unfolding steps
 steps-append M q [] w = refl
 steps-append M q (a ∷ v) w = steps-append M (M .next q a) v w
+
+-- a list whose every element is a sign is a word
+pub word-each : (k : ℕ) (w : List ℕ) → ((i : ℕ) → i < length w → at w i < k) → Word k w
+word-each k [] h = tt
+word-each k (a ∷ w) h = (h zero (omega arith), word-each k w (λ i l. h (suc i) (omega arith)))
+
+-- steps look at next states alone
+pub steps-next : (M N : Machine) → ((q a : ℕ) → M .next q a ≡ N .next q a) → (q : ℕ) (w : List ℕ) → steps M q w ≡ steps N q w
+unfolding steps
+steps-next M N h q [] = refl
+steps-next M N h q (a ∷ w) = ap (λ (p : ℕ). steps M p w) (h q a) ∙ steps-next M N h (N .next q a) w
 
 module _ (M : Machine) where
   pub same-refl : (q : ℕ) → Same M q q

@@ -24,6 +24,11 @@ unfolding tab
 tab-cong zero h = refl
 tab-cong (suc n) h = ap₂ _∷_ (h zero (omega arith)) (tab-cong n (λ i l. h (suc i) (omega arith)))
 
+pub flat-cong {ℓ} : {A : Type ℓ} (n : ℕ) {f g : ℕ → List A} → ((i : ℕ) → i < n → f i ≡ g i) → flat n f ≡ flat n g
+unfolding flat
+flat-cong zero h = refl
+flat-cong (suc n) h = ap₂ _++_ (h zero (omega arith)) (flat-cong n (λ i l. h (suc i) (omega arith)))
+
 pub tab-add {ℓ} : {A : Type ℓ} (n m : ℕ) (f : ℕ → A) → tab (n + m) f ≡ tab n f ++ tab m (λ i. f (n + i))
 unfolding tab
 tab-add zero m f = rw zero-add (tab-cong m (λ i l. ap f (sym (zero-add i))))

@@ -10,7 +10,7 @@ use lib.Arith.{digits-lt}
 use lib.ListN.{length, getD, length-drop, drop-of-length-le}
 use Rattle.counting.specs.Lists.{tab}
 use Rattle.counting.proofs.Alls.{Every, every-cons, every-append, every-flat, every-tab}
-use Rattle.counting.proofs.Tabs.{tab-length, tab-at}
+use Rattle.counting.proofs.Tabs.{tab-length, tab-at, tab-cong, flat-cong}
 use Rattle.automaton.specs.Machine.{Machine, Agree}
 use Rattle.lending.specs.Pairs.{pairAt, pair}
 use Rattle.lending.proofs.Halves.{pair-written, pair-bytes}
@@ -51,13 +51,11 @@ module _ (M : Machine) where
     signs = sizes .1;
     start = sizes .2;
     next = λ q a h l.
-        sym (next-read (encode M) q a h l)
-        ∙ ap₂ (λ (n k : ℕ). pairAt (part (encode M) (12 + n + 3) (2 * (n * k))) (2 * (q * k + a))) (sizes .0) (sizes .1)
+        ap₂ (λ (n k : ℕ). pairAt (part (encode M) (12 + n + 3) (2 * (n * k))) (2 * (q * k + a))) (sizes .0) (sizes .1)
         ∙ ap (λ (s : List ℕ). pairAt s (2 * (q * M .signs + a))) (third .holds)
         ∙ grid-at (M .size) (M .signs) (M .next) q a (omega (arith, sizes .0)) (omega (arith, sizes .1));
     kind = λ q h.
-        sym (mark-read (encode M) q h)
-        ∙ ap (λ (n : ℕ). getD (part (encode M) 12 n) q 0) (sizes .0)
+        ap (λ (n : ℕ). getD (part (encode M) 12 n) q 0) (sizes .0)
         ∙ ap (λ (s : List ℕ). getD s q 0) (second .holds)
         ∙ tab-at (M .size) (M .kind) 0 q (omega (arith, sizes .0));
   }
@@ -73,7 +71,7 @@ module _ (M : Machine) where
             start-in = omega (arith, sizes .0, sizes .2, r .lawful .start-in);
           };
           whole = subst (Whole (encode M) 9 2) (sym (sizes .0)) (second .whole);
-          marks = λ q h. omega (arith, same .kind q h, r .marks q (omega (arith, sizes .0)));
+          marks = λ q h. omega (arith, mark-read (encode M) q h, same .kind q h, r .marks q (omega (arith, sizes .0)));
         };
         whole = subst₂ (λ (n k : ℕ). Whole (encode M) (12 + n) 3 (2 * (n * k))) (sym (sizes .0)) (sym (sizes .1)) (third .whole);
         nexts = λ i h. subst (λ (j : ℕ). pairAt (encode M) (12 + n + 3 + 2 * j) < n) (div-add-mod' i k) (next-in (i / k) (i % k) (div-lt-iff-lt-mul some .1 h) (mod-lt i some));
@@ -93,8 +91,8 @@ module _ (M : Machine) where
         some : 0 < k
         some = omega (arith, sizes .1, r .range .some-sign)
 
-        next-in : (q a : ℕ) → q < n → a < k → machineOf (encode M) .next q a < n
-        next-in q a h l = omega (arith, same .next q a h l, r .lawful .next-in q a (omega (arith, sizes .0)) (omega (arith, sizes .1)), sizes .0)
+        next-in : (q a : ℕ) → q < n → a < k → pairAt (encode M) (12 + n + 3 + 2 * (q * k + a)) < n
+        next-in q a h l = omega (arith, next-read (encode M) q a h l, same .next q a h l, r .lawful .next-in q a (omega (arith, sizes .0)) (omega (arith, sizes .1)), sizes .0)
 
     pub encoded-judged : judged (encode M) ≡ gives (M .size ∷ M .signs ∷ M .start ∷ [])
     encoded-judged = accepted-exactly (encode M) _ .1 (encoded-right, cc (sizes .0, sizes .1, sizes .2))
@@ -135,10 +133,10 @@ machine-in-range file r =
         some-state = i .some-state;
         some-sign = i .some-sign;
         start-in = t .sizes .start-in;
-        next-in = λ q a h l. r .fields .nexts (q * signsOf file + a) (digits-lt h l);
+        next-in = λ q a h l. rw (next-read file q a h l) (r .fields .nexts (q * signsOf file + a) (digits-lt h l));
       };
       range = i;
-      marks = t .marks;
+      marks = λ q h. rw (mark-read file q h) (t .marks q h);
     }
 
 -- a right file of bytes is the encoding of its machine
@@ -148,9 +146,9 @@ right-encoded file bytes r =
     writes file 0 1 6 bytes (r .fields .marks .sizes .whole)
     ∙ ap₂ (λ (b s : List ℕ). fieldOf 1 b ++ s) (rw (pair-written file 3 (bytes _), pair-written file 5 (bytes _), pair-written file 7 (bytes _)))
     (writes file 9 2 n bytes (r .fields .marks .whole)
-    ∙ ap (λ (s : List ℕ). fieldOf 2 (tab n (machineOf file .kind)) ++ s)
+    ∙ ap₂ (λ (b s : List ℕ). fieldOf 2 b ++ s) (tab-cong n (λ q h. sym (mark-read file q h)))
     (writes file (12 + n) 3 (2 * (n * k)) bytes (r .fields .whole)
-    ∙ ap₂ (λ (b s : List ℕ). fieldOf 3 b ++ s) (sym (grid-written n k file (12 + n + 3) bytes)) (drop-of-length-le file (le-of-eq (r .ends)))
+    ∙ ap₂ (λ (b s : List ℕ). fieldOf 3 b ++ s) (sym (grid-written n k file (12 + n + 3) bytes) ∙ flat-cong n (λ q h. flat-cong k (λ a l. ap pair (sym (next-read file q a h l))))) (drop-of-length-le file (le-of-eq (r .ends)))
     ∙ append-nil _))
     ∙ sym (append-assoc (fieldOf 1 _) (fieldOf 2 _) (fieldOf 3 _))
   where

@@ -12,3 +12,4 @@ pub mod Refusals
 pub mod Readers
 pub mod Pieces
 pub mod Encodings
+pub mod Handing

@@ -1,5 +1,5 @@
 -- What opening an answer tells: of a step that gave a field, that the field stands whole there; of a refusal, that it is what was said.
-use mathlib.Core.Path.{_≡_, sym, ap, ap₂, subst₂, _∙_}
+use mathlib.Core.Path.{_≡_, refl, sym, ap, ap₂, subst₂, _∙_}
 use mathlib.Core.List.{List, [], _∷_}
 use Prim.Native.Nat.{ℕ, _+_, _*_, _≤_}
 use native.Mathlib.Omega.{arith}
@@ -7,6 +7,7 @@ use lib.ListN.{length}
 use Rattle.table.specs.Answers.{Said, gives, refusal, told, toldStep}
 use Rattle.table.specs.Judging.{fieldDue, sizesDue, marksDue, nextsDue, judged, statesOf, signsOf, startOf}
 use Rattle.table.specs.Rows.{Whole, InRange, SizesRight, MarksRight, NextsRight, Right}
+use Rattle.table.specs.Accepted.{Good}
 use Rattle.table.specs.declared.answer.Part.{Part}
 use Rattle.table.specs.declared.answer.Refusal.{Refusal}
 use Rattle.table.specs.declared.answer.Sizes.{Sizes}
@@ -75,14 +76,7 @@ accepted {file} {z} g t l =
       ap₂ _∷_ (g .states) (ap₂ _∷_ (g .signs) (ap (λ (x : ℕ). x ∷ []) (g .start))),
     ))
 
--- all that a caller needs of an accepted file: its sizes, and that it is right
-pub record Good (file : List ℕ) (z : Sizes) : Type 0 where
-  pub states : z .states ≡ statesOf file
-  pub signs : z .signs ≡ signsOf file
-  pub start : z .start ≡ startOf file
-  pub range : InRange (z .states) (z .signs)
-  pub right : Right file
-
+-- an accepting judgement tells that
 pub good : {file : List ℕ} {j : Judged} {z : Sizes} → j ≡ Accepted z → told j ≡ judged file → Good file z
 good {file} {j} {z} e t =
     let a = accepted-exactly file (z .states ∷ z .signs ∷ z .start ∷ []) .0 (sym t ∙ ap told e) in
@@ -91,6 +85,10 @@ good {file} {j} {z} e t =
     let k : z .signs ≡ signsOf file = cc in
     let r : Right file = a .0 in
     record { states = n; signs = k; start = cc; range = subst₂ InRange (sym n) (sym k) (r .fields .marks .sizes .range); right = r }
+
+-- a good file is accepted
+pub good-given : {file : List ℕ} {z : Sizes} → Good file z → judged file ≡ gives (statesOf file ∷ signsOf file ∷ startOf file ∷ [])
+good-given {file} g = accepted-exactly file _ .1 (g .right, refl)
 
 -- a step that refused said its refusal
 pub closed : {s : Step} {r : Refusal} {x : Said} → s ≡ Refused r → toldStep s ≡ x → x ≡ refusal r

@@ -8,6 +8,8 @@ use lib.Dec.{eqb}
 use lib.ListN.{length}
 use Rattle.counting.specs.Least.{pick}
 use Rattle.table.specs.declared.answer.Part.{Part}
+use Rattle.table.specs.declared.answer.Sizes.{Sizes}
+use Rattle.table.specs.Accepted.{Good}
 use Rattle.table.specs.Answers.{gives, refuses, whenGiven}
 use Rattle.table.specs.Judging.{judged, statesOf, signsOf}
 use Rattle.table.specs.Rows.{Right}
@@ -36,6 +38,11 @@ module _ (file : List ℕ) (number : ℕ) where
   in-right r =
       one-of (eqb number 1) _ _ (omega (arith, r .fields .marks .sizes .whole .bodied))
       (one-of (eqb number 2) _ _ (omega (arith, r .fields .marks .whole .bodied)) (one-of (eqb number 3) _ _ (omega (arith, r .ends)) (omega arith)))
+
+  -- of a right file the body of every field lies within it
+  pub body-in-within : {z : Sizes} → Good file z → bodyIn (z .states) (z .signs) number .place + bodyIn (z .states) (z .signs) number .length ≤ length file
+  unfolding within
+  body-in-within g = rw (g .states, g .signs) (in-right (g .right))
 
   pub body-within : bodyOf file number .place + bodyOf file number .length ≤ length file
   unfolding within

@@ -53,3 +53,8 @@ toldStep (StepRefused r) = refusal r
 abbrev pub refusalOf : Step → Refusal
 refusalOf (Field p) = record { kind = Short; place = 0 }
 refusalOf (StepRefused r) = r
+
+-- the refusal of a judgement; of one that accepts it is never asked
+abbrev pub refusedBy : Judged → Refusal
+refusedBy (Accepted z) = record { kind = Short; place = 0 }
+refusedBy (JudgedRefused r) = r

@@ -1,4 +1,5 @@
 -- The machine that stands in an accepted file, and the file that a machine in range is written as.
+use mathlib.Core.Path.{_≡_}
 use mathlib.Core.List.{List, _∷_, _++_}
 use Prim.Native.Nat.{ℕ, _+_, _*_, _≤_, _<_}
 use lib.ListN.{length, getD}
@@ -7,16 +8,29 @@ use Rattle.automaton.specs.Machine.{Machine, Lawful}
 use Rattle.lending.specs.Pairs.{pairAt, pair}
 use Rattle.table.specs.Judging.{statesOf, signsOf, startOf}
 use Rattle.table.specs.Rows.{InRange}
+use Rattle.table.specs.Bodies.{part}
 
--- n, k and start from field 1, the marks as kinds from field 2, the next states from field 3
-abbrev pub machineOf : List ℕ → Machine
-machineOf file = record {
-  size = statesOf file;
-  signs = signsOf file;
-  start = startOf file;
-  next = λ q a. pairAt file (12 + statesOf file + 3 + 2 * (q * signsOf file + a));
-  kind = λ q. getD file (12 + q) 0;
+-- the machine of n states, k signs and a start whose marks and next states stand in these bytes
+abbrev pub machineIn : ℕ → ℕ → ℕ → List ℕ → List ℕ → Machine
+machineIn n k start marks nexts = record {
+  size = n;
+  signs = k;
+  start = start;
+  next = λ q a. pairAt nexts (2 * (q * k + a));
+  kind = λ q. getD marks q 0;
 }
+
+-- n, k and start from field 1, the marks as kinds from the body of field 2, the next states from that of field 3
+abbrev pub machineOf : List ℕ → Machine
+machineOf file =
+    machineIn (statesOf file) (signsOf file) (startOf file) (part file 12 (statesOf file)) (part file (12 + statesOf file + 3) (2 * (statesOf file * signsOf file)))
+
+-- The body of field 3 of an accepted file: as long as it must be, the sizes in range, the start and every next state a state.
+pub record Held (n k start : ℕ) (nexts : List ℕ) : Type 0 where
+  pub range : InRange n k
+  pub long : length nexts ≡ 2 * (n * k)
+  pub start-in : start < n
+  pub next-in : (q a : ℕ) → q < n → a < k → pairAt nexts (2 * (q * k + a)) < n
 
 -- A machine that a file can hold: lawful, its sizes in range, its kinds marks.
 pub record MachineInRange (M : Machine) : Type 0 where

@@ -4,3 +4,4 @@ pub mod Judging
 pub mod Rows
 pub mod Bodies
 pub mod Encoding
+pub mod Accepted

@@ -1,6 +1,6 @@
 // What a call answers: the refusal that every answer carries, and the answers of the calls on a file.
 ghost use mathlib.Core.Path.{_≡_};
-ghost use Rattle.table.specs.Answers.{numberOf, refusalOf};
+ghost use Rattle.table.specs.Answers.{numberOf, refusalOf, refusedBy};
 
 // The refusals, in the order of their numbers.
 pub enum Kind {
@@ -76,6 +76,19 @@ pub fn refusal_of(step: Step) -> Refusal
     match step {
         Step::Refused(refusal) => refusal,
         Step::Field(_) => Refusal {
+            kind: Kind::Short,
+            place: 0,
+        },
+    }
+}
+
+// The refusal of a judgement that does not accept.
+pub fn refused_by(judged: Judged) -> Refusal
+    ensures { λ r. ⌜ r ≡ refusedBy judged ⌝ }
+{
+    match judged {
+        Judged::Refused(refusal) => refusal,
+        Judged::Accepted(_) => Refusal {
             kind: Kind::Short,
             place: 0,
         },

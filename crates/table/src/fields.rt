@@ -4,6 +4,7 @@ ghost use Prim.Native.Nat.{_+_, _*_, _<_, _≤_};
 ghost use lib.ListN.{length, getD};
 ghost use Rattle.lending.specs.Pairs.{pairAt};
 ghost use Rattle.table.specs.Rows.{InRange};
+ghost use Rattle.table.specs.Accepted.{Good};
 ghost use Rattle.table.specs.Bodies.{bodyIn, bodyOf, PartOf, FieldOf};
 use crate::answer::Judged;
 use crate::answer::Part;
@@ -61,6 +62,17 @@ pub fn slice_of(file: &[u8], place: usize, size: usize) -> &[u8]
 {
     let end = place + size;
     &file[place..end]
+}
+
+// The body of a field of a file that is accepted with these sizes. Judges nothing.
+pub fn field_of(file: &[u8], sizes: Sizes, number: usize) -> &[u8]
+    requires { ⌜ Good (now file) sizes ⌝ }
+    ensures { λ r. ⌜ PartOf (file .entry) (bodyIn (sizes .states) (sizes .signs) number .place) (bodyIn (sizes .states) (sizes .signs) number .length) r ⌝ }
+{
+    let part = part_in(sizes, number);
+    let place = part.place;
+    let size = part.length;
+    slice_of(file, place, size)
 }
 
 // The body of field 1, 2 or 3 as the part of the lent file where it stands; the empty part at its start for a refused file or any

@@ -5,7 +5,8 @@ use Prim.Native.Nat.{ℕ}
 use denote.Ref.{now}
 use Rattle.table.specs.Answers.{told}
 use Rattle.table.specs.Bodies.{bodyIn}
-use Rattle.table.proofs.Openings.{Good, good}
+use Rattle.table.specs.Accepted.{Good}
+use Rattle.table.proofs.Openings.{good}
 use Rattle.table.proofs.Places.{body-of-given, body-of-refused}
 use borrow.Author.Needs.{needs}
 use Rattle.table.proofs.fields.part_of.Statement.{statement}

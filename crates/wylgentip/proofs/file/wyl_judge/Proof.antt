@@ -1,12 +1,12 @@
--- `wylgentip::wyl_judge` meets its contract: each case of the answer as its numbers.
+-- `wylgentip::file::wyl_judge` meets its contract: each case of the answer as its numbers.
 -- Assumes nothing.
 use mathlib.Core.Path.{sym, ap, _∙_}
 use Prim.Native.Nat.{ℕ}
 use Rattle.table.specs.Answers.{refuses, told}
 use Rattle.wylgentip.specs.Flat.{flatJudged}
 use borrow.Author.Needs.{needs}
-use Rattle.wylgentip.proofs.wyl_judge.Statement.{statement}
-use Rattle.wylgentip.proofs.wyl_judge.Tie as tie
+use Rattle.wylgentip.proofs.file.wyl_judge.Statement.{statement}
+use Rattle.wylgentip.proofs.file.wyl_judge.Tie as tie
 
 judge-requires : tie.Need-judge-requires
 judge-requires c κs = search needs

@@ -1,10 +1,10 @@
--- `wylgentip::wyl_field` meets its contract: the part that `part_of` names.
+-- `wylgentip::file::wyl_field` meets its contract: the part that `part_of` names.
 -- Assumes nothing.
 use mathlib.Core.Path.{ap}
 use Rattle.wylgentip.specs.Flat.{flatPart}
 use borrow.Author.Needs.{needs}
-use Rattle.wylgentip.proofs.wyl_field.Statement.{statement}
-use Rattle.wylgentip.proofs.wyl_field.Tie as tie
+use Rattle.wylgentip.proofs.file.wyl_field.Statement.{statement}
+use Rattle.wylgentip.proofs.file.wyl_field.Tie as tie
 
 part-of-requires : tie.Need-part-of-requires
 part-of-requires c κs = search needs

@@ -1,0 +1,5 @@
+-- Laws of running words and lines.
+pub mod Walking
+pub mod Signs
+pub mod Answering
+pub mod Uniqueness

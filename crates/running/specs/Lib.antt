@@ -1,0 +1,3 @@
+-- Running words and lines.
+pub mod Plan
+pub mod Running

@@ -1,0 +1,3 @@
+// Running words and lines on the table in a file.
+pub mod plan;
+pub mod words;
