@@ -14,6 +14,8 @@
  *    6  the start is n or more: 7
  *    7  a mark is neither 0 nor 1: the first such mark
  *    8  a next state is n or more: the first byte of the first such
+ *    9  a line is to be run and k isn't 47: 0
+ *   10  a sign of a lent word is k or more: the index of the first such
  */
 #ifndef WYLGENTIP_H
 #define WYLGENTIP_H
@@ -47,6 +49,22 @@ typedef struct {
 /* Where the body of field 1, 2 or 3 stands. For a file that is refused, and for any other number, the empty part
  * at the file's start; the refusal itself is had from wyl_judge. Reads the file and writes nothing. */
 wyl_part wyl_field(const uint8_t *file, size_t length, size_t number);
+
+/* number 0: run to the end, and kind is the mark of the last state. Any other number is that of the refusal, and kind is 0. */
+typedef struct {
+    size_t number;
+    size_t place;
+    size_t kind;
+} wyl_ran;
+
+/* Runs a word, one sign a byte, from the start; the empty word gives the start's mark. Judges the whole file.
+ * Refuses with 1 to 8, then 10. Reads the file and the word and writes nothing. */
+wyl_ran wyl_run_word(const uint8_t *file, size_t length, const uint8_t *word, size_t signs);
+
+/* Runs a line of bytes by the sign plan: 0 to 9 are signs 0 to 9; A to Z and a to z 10 to 35; space 36, + 37, - 38, . 39, / 40, comma 41,
+ * : 42, = 43, byte 13 44, byte 10 45; every other byte 46. Judges the whole file. Refuses with 1 to 8, then 9.
+ * Reads the file and the line and writes nothing. */
+wyl_ran wyl_run_line(const uint8_t *file, size_t length, const uint8_t *line, size_t bytes);
 
 #ifdef __cplusplus
 }

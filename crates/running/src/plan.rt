@@ -1,6 +1,5 @@
 // The sign plan: the sign of each byte of a line.
 ghost use mathlib.Core.Path.{_≡_};
-ghost use Rattle.counting.specs.Lists.{at};
 ghost use Rattle.running.specs.Plan.{plan1};
 
 const PLAN: [u8; 256] = [
@@ -262,9 +261,9 @@ const PLAN: [u8; 256] = [
     46,
 ];
 
-// The sign of a byte.
-pub fn sign_of(byte: u8) -> u8
-    ensures { λ r. ⌜ r ≡ at plan1 byte ⌝ }
+// Sign plan 1, for whoever looks signs up in it.
+pub fn sign_plan() -> [u8; 256]
+    ensures { λ r. ⌜ r ≡ plan1 ⌝ }
 {
-    PLAN[byte as usize]
+    PLAN
 }

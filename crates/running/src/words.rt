@@ -4,9 +4,9 @@ ghost use mathlib.Core.List.{[]};
 ghost use Prim.Native.Nat.{_<_};
 ghost use Rattle.automaton.specs.Words.{steps};
 ghost use Rattle.table.specs.Encoding.{machineIn, Held};
-ghost use Rattle.running.specs.Plan.{plan1, spelled};
+ghost use Rattle.running.specs.Plan.{SignPlan, spelled};
 ghost use Rattle.running.specs.Running.{told, strangeBy, walked, ranWord, ranLine};
-use crate::plan::sign_of;
+use crate::plan::sign_plan;
 use table::answer::Judged;
 use table::answer::Kind;
 use table::answer::Refusal;
@@ -48,18 +48,20 @@ fn walk_word(nexts: &[u8], sizes: Sizes, word: &[u8]) -> Walk
     Walk::Stands(q)
 }
 
-// Walks from the start along the word that a line spells. Reads each byte once.
-fn walk_line(nexts: &[u8], sizes: Sizes, line: &[u8]) -> usize
-    requires { ⌜ Held (sizes .states) (sizes .signs) (sizes .start) (now nexts) ⌝ }
-    requires { ⌜ sizes .signs ≡ 47 ⌝ }
-    ensures reached { λ r. ⌜ r ≡ steps (machineIn (sizes .states) (sizes .signs) (sizes .start) [] (now (nexts .entry))) (sizes .start) (spelled plan1 (now (line .entry))) ⌝ }
+// Walks from the start along the word that a line spells by a sign plan. Reads each byte once.
+fn walk_line(nexts: &[u8], sizes: Sizes, plan: &[u8; 256], line: &[u8]) -> usize
+    requires held { ⌜ Held (sizes .states) (sizes .signs) (sizes .start) (now nexts) ⌝ }
+    requires signs { ⌜ sizes .signs ≡ 47 ⌝ }
+    requires plan { ⌜ SignPlan (now plan) ⌝ }
+    ensures reached { λ r. ⌜ r ≡ steps (machineIn (sizes .states) (sizes .signs) (sizes .start) [] (now (nexts .entry))) (sizes .start) (spelled (now (plan .entry)) (now (line .entry))) ⌝ }
     ensures inside { λ r. ⌜ r < sizes .states ⌝ }
 {
     let signs = sizes.signs;
     let mut state = sizes.start;
     let mut i = 0;
     while i < line.len() {
-        let a = sign_of(line[i]) as usize;
+        let byte = line[i] as usize;
+        let a = plan[byte] as usize;
         state = next_of(nexts, signs, state, a);
         i += 1;
     }
@@ -115,6 +117,7 @@ pub fn run_line(file: &[u8], line: &[u8]) -> Ran
     }
     let marks = field_of(file, sizes, 2);
     let nexts = field_of(file, sizes, 3);
-    let state = walk_line(nexts, sizes, line);
+    let plan = sign_plan();
+    let state = walk_line(nexts, sizes, &plan, line);
     Ran::Ended(mark_of(marks, state) as usize)
 }
