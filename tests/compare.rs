@@ -6,6 +6,7 @@ mod damage;
 mod generate;
 mod interface;
 mod judging;
+mod running;
 mod second;
 
 const _: () = assert!(judging::LEAST_FILES >= 200_000);

@@ -1,53 +1,35 @@
-// One comparison: files given to the library and to the second program, counted, their answers
-// held against each other. Rests on interface.rs and second/.
+// One comparison: answers and lent memory of the library and of the second program, held against
+// each other and counted. Rests on generate.rs.
 
 use std::fmt::{Arguments, Debug};
 
 use crate::generate::Random;
-use crate::interface::{self, Judged, Part};
-use crate::second;
 
 const SHOWN_WHOLE: usize = 400;
 
-/// The last four are wrong numbers that keep a right one in their low bytes, and the largest.
-const FIELD_NUMBERS: [usize; 10] = [
-    0,
-    1,
-    2,
-    3,
-    4,
-    5,
-    0x101,
-    0x1_0001,
-    usize::MAX / 2 + 2,
-    usize::MAX,
-];
-
-/// Counts the files compared, and how often each number from 0 to 8 was the answer.
+/// Counts the calls compared, and how often each number from 0 to 13 was the answer.
 pub struct Comparison {
     seed: Option<u64>,
-    answers: [usize; 9],
+    answers: [usize; 14],
 }
 
 impl Comparison {
     pub fn new() -> Comparison {
         Comparison {
             seed: None,
-            answers: [0; 9],
+            answers: [0; 14],
         }
     }
 
-    /// One file made from each of the seeds that follow the first.
+    /// The body once with each of the seeds that follow the first.
     pub fn generated(
         first_seed: u64,
-        files: usize,
-        make: impl Fn(&mut Random) -> Vec<u8>,
+        times: usize,
+        body: impl Fn(&mut Random, &mut Comparison),
     ) -> Comparison {
         let mut comparison = Comparison::new();
-        for seed in first_seed..first_seed + files as u64 {
-            comparison.seeded(seed, |random, comparison| {
-                comparison.compare(&make(random));
-            });
+        for seed in first_seed..first_seed + times as u64 {
+            comparison.seeded(seed, &body);
         }
         comparison
     }
@@ -59,41 +41,35 @@ impl Comparison {
         self.seed = None;
     }
 
-    pub fn compare(&mut self, file: &[u8]) {
-        let kept = file.to_vec();
-        let judged = second_judge(file);
-        self.demand(file, format_args!("judge"), interface::judge(file), judged);
-        for number in FIELD_NUMBERS {
-            self.demand(
-                file,
-                format_args!("field {number}"),
-                interface::field(file, number),
-                second_field(file, number),
-            );
-        }
-        assert!(
-            kept == file,
-            "the lent file was changed\n{}",
-            self.describe(&kept)
-        );
-        self.answers[judged.number] += 1;
-    }
-
-    /// Demands this answer of both programs, and compares.
-    pub fn expect(&mut self, file: &[u8], expected: Judged) {
-        let (library, second) = (interface::judge(file), second_judge(file));
-        assert!(
-            library == expected && second == expected,
-            "judge differs\nexpected: {expected:?}\nlibrary:  {library:?}\nsecond:   {second:?}\n{}",
-            self.describe(file)
-        );
-        self.compare(file);
-    }
-
-    fn demand<T: PartialEq + Debug>(&self, file: &[u8], what: Arguments, library: T, second: T) {
+    /// Demands the same of both programs.
+    pub fn demand<T>(&self, file: &[u8], what: Arguments, library: T, second: T)
+    where
+        T: PartialEq + Debug,
+    {
         assert!(
             library == second,
             "{what} differs\nlibrary:  {library:?}\nsecond:   {second:?}\n{}",
+            self.describe(file)
+        );
+    }
+
+    /// Demands this of the library.
+    pub fn expect<T>(&self, file: &[u8], what: Arguments, found: T, expected: T)
+    where
+        T: PartialEq + Debug,
+    {
+        assert!(
+            found == expected,
+            "{what} isn't as expected\nfound:    {found:?}\nexpected: {expected:?}\n{}",
+            self.describe(file)
+        );
+    }
+
+    /// Demands that lent memory is as it was before.
+    pub fn demand_kept(&self, file: &[u8], what: &str, kept: &[u8], lent: &[u8]) {
+        assert!(
+            kept == lent,
+            "the lent {what} was changed\n{}",
             self.describe(file)
         );
     }
@@ -106,45 +82,38 @@ impl Comparison {
         format!("{seed}, file of {} bytes: {}", file.len(), hex(file))
     }
 
-    /// Demands that at least so many files gave each of these numbers.
+    /// Counts a call compared, by the number of its answer.
+    pub fn count(&mut self, number: usize) {
+        self.answers[number] += 1;
+    }
+
+    /// Demands that at least so many calls gave each of these numbers.
     pub fn met(&self, numbers: impl IntoIterator<Item = usize>, least: usize) {
         for number in numbers {
-            let files = self.answers[number];
-            assert!(files >= least, "number {number} was met {files} times only");
+            let calls = self.answers[number];
+            assert!(calls >= least, "number {number} was met {calls} times only");
         }
     }
 
-    /// Demands that at least so many files were compared.
+    /// Demands that at least so many calls were compared.
     pub fn finish(self, least: usize) {
-        let files: usize = self.answers.iter().sum();
-        println!("{files} files compared, by number {:?}", self.answers);
-        assert!(files >= least, "{files} files compared, {least} promised");
+        let calls: usize = self.answers.iter().sum();
+        println!("{calls} calls compared, by number {:?}", self.answers);
+        assert!(calls >= least, "{calls} calls compared, {least} promised");
     }
 }
 
-fn second_judge(file: &[u8]) -> Judged {
-    match second::file::judge(file) {
-        Ok(table) => Judged::accepted(table.states, table.signs, table.start),
-        Err(refusal) => Judged::refused(refusal.number, refusal.place),
-    }
-}
-
-fn second_field(file: &[u8], number: usize) -> Part {
-    let second::file::Part { place, length } = second::file::field(file, number);
-    Part { place, length }
-}
-
-/// Longer files are left out in the middle.
-fn hex(file: &[u8]) -> String {
+/// Longer bytes are left out in the middle.
+pub fn hex(bytes: &[u8]) -> String {
     let all = |bytes: &[u8]| {
         let pairs: Vec<String> = bytes.iter().map(|byte| format!("{byte:02X}")).collect();
         pairs.join(" ")
     };
-    if file.len() <= SHOWN_WHOLE {
-        return all(file);
+    if bytes.len() <= SHOWN_WHOLE {
+        return all(bytes);
     }
     let half = SHOWN_WHOLE / 2;
-    let left_out = file.len() - SHOWN_WHOLE;
-    let (front, back) = (&file[..half], &file[file.len() - half..]);
+    let left_out = bytes.len() - SHOWN_WHOLE;
+    let (front, back) = (&bytes[..half], &bytes[bytes.len() - half..]);
     format!("{} [{left_out} bytes] {}", all(front), all(back))
 }

@@ -109,6 +109,11 @@ pub fn t1() -> Table {
     sample(2, &[0, 0, 1, 1, 0], &[1, 0, 2, 0, 3, 2, 2, 3, 3, 0])
 }
 
+/// T1's shrunk file.
+pub const T1_SHRUNK: [u8; 30] = [
+    1, 0, 6, 0, 3, 0, 2, 0, 0, 2, 0, 3, 0, 0, 1, 3, 0, 12, 0, 1, 0, 0, 0, 2, 0, 0, 0, 2, 0, 2,
+];
+
 pub fn t2() -> Table {
     sample(
         2,
@@ -167,6 +172,18 @@ pub fn chain(random: &mut Random, states: usize, signs: usize) -> Table {
     table
 }
 
+/// As a chain, but only sign 0 is bound to lead on; so all states are apart, mostly by short words.
+pub fn all_apart(random: &mut Random, states: usize, signs: usize) -> Table {
+    let mut table = chain(random, states, signs);
+    for (index, entry) in table.next_states.iter_mut().enumerate() {
+        *entry = match index % signs {
+            0 => (index / signs + 1).min(states - 1),
+            _ => random.below(states),
+        } as u16;
+    }
+    table
+}
+
 /// From the start at most a quarter of the states can be reached.
 pub fn mostly_unreachable(random: &mut Random, states: usize, signs: usize) -> Table {
     let reachable = states.div_ceil(4);
@@ -197,8 +214,32 @@ pub fn copies(random: &mut Random, states: usize, signs: usize) -> Table {
     table
 }
 
-const SHAPES: [fn(&mut Random, usize, usize) -> Table; 5] =
-    [scattered, chain, mostly_unreachable, one_class, copies];
+/// The same table with its states in another order.
+pub fn renamed(random: &mut Random, table: &Table) -> Table {
+    let mut names: Vec<usize> = (0..table.states()).collect();
+    for last in (1..names.len()).rev() {
+        names.swap(last, random.below(last + 1));
+    }
+    let mut renamed = blank(table.states(), table.signs);
+    renamed.start = names[table.start];
+    for (state, &name) in names.iter().enumerate() {
+        renamed.marks[name] = table.marks[state];
+        for sign in 0..table.signs {
+            let next = table.next_states[state * table.signs + sign];
+            renamed.next_states[name * table.signs + sign] = names[usize::from(next)] as u16;
+        }
+    }
+    renamed
+}
+
+const SHAPES: [fn(&mut Random, usize, usize) -> Table; 6] = [
+    scattered,
+    chain,
+    all_apart,
+    mostly_unreachable,
+    one_class,
+    copies,
+];
 
 const EDGE_SIZES: [(usize, usize); 8] = [
     (1, 1),
@@ -224,8 +265,29 @@ fn sizes(random: &mut Random) -> (usize, usize) {
     }
 }
 
+/// Of any shape, its states in another order in half of the cases.
+pub fn shaped(random: &mut Random, states: usize, signs: usize) -> Table {
+    let table = random.one_of(&SHAPES)(random, states, signs);
+    match random.below(2) {
+        0 => renamed(random, &table),
+        _ => table,
+    }
+}
+
 pub fn table(random: &mut Random) -> Table {
     let (states, signs) = sizes(random);
-    let shape = random.one_of(&SHAPES);
-    shape(random, states, signs)
+    shaped(random, states, signs)
+}
+
+/// At most 12 states and 4 signs, but for a few middling tables.
+pub fn small_table(random: &mut Random) -> Table {
+    let (states, signs) = match random.below(64) {
+        0 => (random.between(13, 70), random.between(1, 6)),
+        _ => (random.between(1, 12), random.between(1, 4)),
+    };
+    shaped(random, states, signs)
+}
+
+pub fn word(random: &mut Random, signs: usize, length: usize) -> Vec<u8> {
+    (0..length).map(|_| random.below(signs) as u8).collect()
 }

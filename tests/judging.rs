@@ -1,13 +1,14 @@
 // The tests of the judging of a file and of the field reader.
-// Rests on comparison.rs, and on generate.rs and damage.rs for its files.
+// Rests on comparison.rs, on the library and the second program, and on generate.rs and damage.rs.
 
 use crate::comparison::Comparison;
 use crate::damage::damaged;
 use crate::generate::{
     blank, chain, encode, fields, file_of, scattered, sizes_field, t1, t2, t3, table, Random,
+    T1_SHRUNK,
 };
-use crate::interface::{self, Judged, Part};
-use crate::second;
+use crate::interface::judging::{self as library, Judged, Part};
+use crate::second::file as second;
 
 const OF_THE_PAPER: usize = 24;
 const CUT: usize = 1_500;
@@ -39,9 +40,62 @@ const T1: [u8; 40] = [
     2, 0, 2, 0, 3, 0, 3, 0, 0,
 ];
 
-const T1_SHRUNK: [u8; 30] = [
-    1, 0, 6, 0, 3, 0, 2, 0, 0, 2, 0, 3, 0, 0, 1, 3, 0, 12, 0, 1, 0, 0, 0, 2, 0, 0, 0, 2, 0, 2,
+/// The last four are wrong numbers that keep a right one in their low bytes, and the largest.
+const FIELD_NUMBERS: [usize; 10] = [
+    0,
+    1,
+    2,
+    3,
+    4,
+    5,
+    0x101,
+    0x1_0001,
+    usize::MAX / 2 + 2,
+    usize::MAX,
 ];
+
+/// Judges the file, which is counted, and asks for its fields.
+fn compare(comparison: &mut Comparison, file: &[u8]) -> Judged {
+    let kept = file.to_vec();
+    let judged = library::judge(file);
+    comparison.demand(file, format_args!("judge"), judged, second_judge(file));
+    for number in FIELD_NUMBERS {
+        comparison.demand(
+            file,
+            format_args!("field {number}"),
+            library::field(file, number),
+            second_field(file, number),
+        );
+    }
+    comparison.demand_kept(&kept, "file", &kept, file);
+    comparison.count(judged.number);
+    judged
+}
+
+fn second_judge(file: &[u8]) -> Judged {
+    match second::judge(file) {
+        Ok(table) => Judged::accepted(table.states, table.signs, table.start),
+        Err(refusal) => Judged::refused(refusal.number, refusal.place),
+    }
+}
+
+fn second_field(file: &[u8], number: usize) -> Part {
+    let second::Part { place, length } = second::field(file, number);
+    Part { place, length }
+}
+
+/// Demands this answer, and compares.
+fn expect(comparison: &mut Comparison, file: &[u8], expected: Judged) {
+    let judged = compare(comparison, file);
+    comparison.expect(file, format_args!("judge"), judged, expected);
+}
+
+/// One file made from each of the seeds that follow the first.
+fn generated(first_seed: u64, files: usize, make: impl Fn(&mut Random) -> Vec<u8>) -> Comparison {
+    Comparison::generated(first_seed, files, |random, comparison| {
+        compare(comparison, &make(random));
+    })
+}
 
 /// T1 with bytes changed: each a place and the byte it takes.
 fn t1_with(changes: &[(usize, u8)]) -> Vec<u8> {
@@ -88,7 +142,7 @@ fn samples_of_the_paper() {
         (and_one_more(t1_with(&[(39, 5)])), refused(8, 38)),
     ];
     for (file, expected) in cases {
-        comparison.expect(&file, expected);
+        expect(&mut comparison, &file, expected);
     }
     comparison.finish(OF_THE_PAPER);
 }
@@ -98,8 +152,8 @@ fn t1_is_encoded_and_read_as_the_paper_has_it() {
     assert_eq!(encode(&t1()), T1);
     let bodies = [(0, 0), (3, 6), (12, 5), (20, 20), (0, 0)];
     for (number, (place, length)) in bodies.into_iter().enumerate() {
-        assert_eq!(interface::field(&T1, number), Part { place, length });
-        let second = second::file::field(&T1, number);
+        assert_eq!(library::field(&T1, number), Part { place, length });
+        let second = second::field(&T1, number);
         assert_eq!((second.place, second.length), (place, length));
     }
 }
@@ -125,7 +179,7 @@ fn cut_at_every_length() {
     files.push(encode(&scattered(&mut Random::new(2), 257, 2)));
     for file in files {
         for length in 0..file.len() {
-            comparison.expect(&file[..length], Judged::refused(1, length));
+            expect(&mut comparison, &file[..length], Judged::refused(1, length));
         }
     }
     comparison.finish(CUT);
@@ -139,7 +193,7 @@ fn each_byte_changed_to_every_value() {
             let kept = file[place];
             for byte in 0..=255 {
                 file[place] = byte;
-                comparison.compare(&file);
+                compare(&mut comparison, &file);
             }
             file[place] = kept;
         }
@@ -158,7 +212,11 @@ fn compare_sizes(comparison: &mut Comparison, states: usize, signs: usize) {
         true => Judged::refused(1, 9),
         false => Judged::refused(5, 3),
     };
-    comparison.expect(&file_of(&[sizes_field(states, signs, 0)]), expected);
+    expect(
+        comparison,
+        &file_of(&[sizes_field(states, signs, 0)]),
+        expected,
+    );
 }
 
 #[test]
@@ -189,7 +247,7 @@ fn compare_whole(comparison: &mut Comparison, states: usize, signs: usize) {
             (true, false) => Judged::refused(6, 7),
             (false, _) => Judged::refused(5, 3),
         };
-        comparison.expect(&encode(&table), expected);
+        expect(comparison, &encode(&table), expected);
     }
 }
 
@@ -217,7 +275,7 @@ fn generated_tables() {
         comparison.seeded(seed, |random, comparison| {
             let table = table(random);
             let expected = Judged::accepted(table.states(), table.signs, table.start);
-            comparison.expect(&encode(&table), expected);
+            expect(comparison, &encode(&table), expected);
         });
     }
     comparison.finish(ACCEPTED);
@@ -225,7 +283,7 @@ fn generated_tables() {
 
 #[test]
 fn generated_tables_damaged_once() {
-    let comparison = Comparison::generated(1_000_000, DAMAGED_ONCE, |random| {
+    let comparison = generated(1_000_000, DAMAGED_ONCE, |random| {
         let fields = fields(&table(random));
         damaged(random, fields, 1)
     });
@@ -235,7 +293,7 @@ fn generated_tables_damaged_once() {
 
 #[test]
 fn generated_tables_damaged_several_times() {
-    let comparison = Comparison::generated(2_000_000, DAMAGED_MORE, |random| {
+    let comparison = generated(2_000_000, DAMAGED_MORE, |random| {
         let fields = fields(&table(random));
         let times = random.between(2, 5);
         damaged(random, fields, times)
@@ -246,7 +304,7 @@ fn generated_tables_damaged_several_times() {
 
 #[test]
 fn random_bytes() {
-    let comparison = Comparison::generated(3_000_000, RANDOM, |random| {
+    let comparison = generated(3_000_000, RANDOM, |random| {
         let length = random.below(60);
         let mut file = random.bytes(length);
         if random.below(4) > 0 {
@@ -260,7 +318,7 @@ fn random_bytes() {
 
 #[test]
 fn random_bytes_behind_a_valid_beginning() {
-    let comparison = Comparison::generated(4_000_000, RANDOM_BEHIND_VALID, |random| {
+    let comparison = generated(4_000_000, RANDOM_BEHIND_VALID, |random| {
         let mut file = encode(&table(random));
         file.truncate(random.below(file.len() + 1));
         let length = random.below(80);
@@ -282,17 +340,17 @@ fn the_largest_file_and_longer_ones() {
             .chain((1_100..65_000).step_by(97))
             .chain(65_000..65_015)
         {
-            comparison.expect(&file[..length], Judged::refused(1, length));
+            expect(comparison, &file[..length], Judged::refused(1, length));
         }
         bad_marks_and_next_states(comparison, file.clone());
         for more in [1, 2, 3, 520, 521, 522, 65_536, 1 << 20] {
             let mut longer = file.clone();
             longer.extend(random.bytes(more));
-            comparison.expect(&longer, Judged::refused(3, 65_015));
+            expect(comparison, &longer, Judged::refused(3, 65_015));
             let mut longer = T1.to_vec();
             longer.resize(T1.len() + more, 0);
-            comparison.expect(&longer, Judged::refused(3, 40));
-            comparison.compare(&random.bytes(65_015 + more));
+            expect(comparison, &longer, Judged::refused(3, 40));
+            compare(comparison, &random.bytes(65_015 + more));
         }
     });
     comparison.finish(LARGEST_AND_LONGER);
@@ -305,11 +363,11 @@ fn bad_marks_and_next_states(comparison: &mut Comparison, mut file: Vec<u8>) {
     for place in (1_015..last).step_by(82).chain([last]) {
         let kept = [file[place], file[place + 1]];
         file[place..place + 2].copy_from_slice(&1_000_u16.to_be_bytes());
-        comparison.expect(&file, Judged::refused(8, place));
+        expect(comparison, &file, Judged::refused(8, place));
         file[place..place + 2].copy_from_slice(&kept);
     }
     for place in (12..1_012).rev() {
         file[place] = 2;
-        comparison.expect(&file, Judged::refused(7, place));
+        expect(comparison, &file, Judged::refused(7, place));
     }
 }

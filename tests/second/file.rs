@@ -24,7 +24,7 @@ impl Part {
         self.place + self.length
     }
 
-    fn of(self, file: &[u8]) -> &[u8] {
+    pub fn of(self, file: &[u8]) -> &[u8] {
         &file[self.place..self.end()]
     }
 }
@@ -68,11 +68,11 @@ pub fn field(file: &[u8], number: usize) -> Part {
     }
 }
 
-fn refuse<T>(number: usize, place: usize) -> Result<T, Refusal> {
+pub fn refuse<T>(number: usize, place: usize) -> Result<T, Refusal> {
     Err(Refusal { number, place })
 }
 
-fn number(bytes: [u8; 2]) -> usize {
+pub fn number(bytes: [u8; 2]) -> usize {
     usize::from(u16::from_be_bytes(bytes))
 }
 

@@ -1,4 +1,6 @@
 // The second program: the paper's rules written again in plain Rust, one module a subject.
 // It rests on the paper and the standard library alone.
 
+pub mod automaton;
 pub mod file;
+pub mod running;

@@ -1,4 +1,4 @@
-// Safe calls of the proved library: a slice goes in, a struct comes out.
+// The calls that judge a file and find its fields.
 // Rests on the C interface of include/wylgentip.h.
 
 #[repr(C)]

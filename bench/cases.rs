@@ -1,0 +1,54 @@
+// The tables that the benchmarks time.
+// Rests on tests/generate.rs.
+
+use crate::parts::generate::{blank, chain, copies, encode, renamed, scattered, t1, Random, Table};
+
+const SEED: u64 = 1;
+
+pub struct Case {
+    pub name: &'static str,
+    pub states: usize,
+    pub signs: usize,
+    pub file: Vec<u8>,
+}
+
+impl Case {
+    fn new(name: &'static str, table: &Table) -> Case {
+        Case {
+            name,
+            states: table.states(),
+            signs: table.signs,
+            file: encode(table),
+        }
+    }
+}
+
+pub fn cases() -> Vec<Case> {
+    let random = &mut Random::new(SEED);
+    let mergeable = copies(random, 1_024, 31);
+    vec![
+        Case::new("random", &scattered(random, 1_000, 32)),
+        Case::new("chain", &chain(random, 1_024, 31)),
+        Case::new("mergeable", &renamed(random, &mergeable)),
+        Case::new("line-like", &line_like(random, 680)),
+        Case::new("500x64", &scattered(random, 500, 64)),
+        Case::new("12x4", &scattered(random, 12, 4)),
+        Case::new("T1", &t1()),
+    ]
+}
+
+/// 47 signs, of which five lead on from a state and the others to the state where all is lost.
+fn line_like(random: &mut Random, states: usize) -> Table {
+    let signs = 47;
+    let lost = states - 1;
+    let mut table = blank(states, signs);
+    table.next_states.fill(lost as u16);
+    for state in 0..lost {
+        table.marks[state] = u8::from(random.below(8) == 0);
+        for _ in 0..5 {
+            let next = (state + random.below(20)).min(lost - 1);
+            table.next_states[state * signs + random.below(signs)] = next as u16;
+        }
+    }
+    table
+}

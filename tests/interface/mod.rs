@@ -1,0 +1,5 @@
+// Safe calls of the proved library: slices go in, a struct comes out; one module a subject.
+// Rests on the C interface of include/wylgentip.h.
+
+pub mod judging;
+pub mod running;
