@@ -1,7 +1,9 @@
 // The tables that the benchmarks time.
 // Rests on tests/generate.rs.
 
-use crate::parts::generate::{blank, chain, copies, encode, renamed, scattered, t1, Random, Table};
+use crate::parts::generate::{
+    blank, chain, copies, encode, halving, renamed, scattered, t1, Random, Table,
+};
 
 const SEED: u64 = 1;
 
@@ -21,6 +23,11 @@ impl Case {
             file: encode(table),
         }
     }
+
+    /// A work slice that is long enough.
+    pub fn work(&self) -> Vec<u16> {
+        vec![0; 16 * self.states]
+    }
 }
 
 pub fn cases() -> Vec<Case> {
@@ -30,6 +37,7 @@ pub fn cases() -> Vec<Case> {
         Case::new("random", &scattered(random, 1_000, 32)),
         Case::new("chain", &chain(random, 1_024, 31)),
         Case::new("mergeable", &renamed(random, &mergeable)),
+        Case::new("halving", &halving(31)),
         Case::new("line-like", &line_like(random, 680)),
         Case::new("500x64", &scattered(random, 500, 64)),
         Case::new("12x4", &scattered(random, 12, 4)),

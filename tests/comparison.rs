@@ -1,9 +1,10 @@
 // One comparison: answers and lent memory of the library and of the second program, held against
-// each other and counted. Rests on generate.rs.
+// each other and counted. Rests on generate.rs and lent.rs.
 
 use std::fmt::{Arguments, Debug};
 
 use crate::generate::Random;
+use crate::lent::{Leftover, Lent};
 
 const SHOWN_WHOLE: usize = 400;
 
@@ -74,6 +75,33 @@ impl Comparison {
         );
     }
 
+    /// Demands the same memory of both programs, changed at the front of the lent slice only.
+    pub fn demand_lent<T: Leftover>(
+        &self,
+        file: &[u8],
+        what: &str,
+        lent: &Lent<T>,
+        may_change: usize,
+    ) {
+        if let Some(difference) = lent.difference(may_change) {
+            panic!("the {what}: {difference}\n{}", self.describe(file));
+        }
+    }
+
+    /// Demands what the paper says of a work slice after an answer of this number.
+    pub fn demand_work(&self, file: &[u8], work: &Lent<u16>, number: usize) {
+        let cleared = match number {
+            0 | 12 => 16 * states_of(file),
+            _ => 0,
+        };
+        self.demand_lent(file, "work slice", work, cleared);
+        assert!(
+            work.left()[..cleared].iter().all(|&left| left == 0),
+            "the work slice isn't cleared\n{}",
+            self.describe(file)
+        );
+    }
+
     fn describe(&self, file: &[u8]) -> String {
         let seed = match self.seed {
             Some(seed) => format!("seed {seed}"),
@@ -101,6 +129,11 @@ impl Comparison {
         println!("{calls} calls compared, by number {:?}", self.answers);
         assert!(calls >= least, "{calls} calls compared, {least} promised");
     }
+}
+
+/// The number of states of an accepted file.
+pub fn states_of(file: &[u8]) -> usize {
+    usize::from(u16::from_be_bytes([file[3], file[4]]))
 }
 
 /// Longer bytes are left out in the middle.

@@ -214,6 +214,19 @@ pub fn copies(random: &mut Random, states: usize, signs: usize) -> Table {
     table
 }
 
+/// 1,024 states of ten bits, of which the top one is the mark; sign 0 rotates them, the others stay.
+/// The splitting halves its classes, and looks at many entries before.
+pub fn halving(signs: usize) -> Table {
+    let mut table = blank(1_024, signs);
+    for state in 0..1_024 {
+        table.marks[state] = (state >> 9) as u8;
+        let row = &mut table.next_states[state * signs..][..signs];
+        row.fill(state as u16);
+        row[0] = (state << 1 & 1_023 | state >> 9) as u16;
+    }
+    table
+}
+
 /// The same table with its states in another order.
 pub fn renamed(random: &mut Random, table: &Table) -> Table {
     let mut names: Vec<usize> = (0..table.states()).collect();

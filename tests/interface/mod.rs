@@ -2,4 +2,8 @@
 // Rests on the C interface of include/wylgentip.h.
 
 pub mod judging;
+pub mod layering;
 pub mod running;
+pub mod shrinking;
+pub mod splitting;
+pub mod telling;

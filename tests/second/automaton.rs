@@ -5,6 +5,7 @@ use super::file::{judge, number, Refusal};
 
 #[derive(Clone, Copy, Debug)]
 pub struct Automaton<'a> {
+    pub states: usize,
     pub signs: usize,
     pub start: usize,
     marks: &'a [u8],
@@ -16,6 +17,7 @@ impl Automaton<'_> {
         let table = judge(file)?;
         let [_, marks, next_states] = table.bodies;
         Ok(Automaton {
+            states: table.states,
             signs: table.signs,
             start: table.start,
             marks: marks.of(file),
@@ -29,5 +31,11 @@ impl Automaton<'_> {
 
     pub fn next(&self, state: usize, sign: usize) -> usize {
         number(self.entries[state * self.signs + sign])
+    }
+
+    /// The next state of each state under a sign.
+    pub fn column(&self, sign: usize) -> impl Iterator<Item = usize> + '_ {
+        let entries = self.entries[sign..].iter().step_by(self.signs);
+        entries.map(|&entry| number(entry))
     }
 }

@@ -3,4 +3,11 @@
 
 pub mod automaton;
 pub mod file;
+pub mod layering;
+pub mod lent;
+pub mod moore;
 pub mod running;
+pub mod shrinking;
+pub mod splitting;
+pub mod telling;
+pub mod tuned;

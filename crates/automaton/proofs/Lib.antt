@@ -3,6 +3,7 @@ pub mod Walks
 pub mod Alikes
 pub mod Settling
 pub mod Tellings
+pub mod Lineage
 pub mod Reaching
 pub mod Rowlists
 pub mod Quotients

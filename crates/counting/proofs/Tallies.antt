@@ -32,6 +32,14 @@ all-iff (suc n) P =
       (λ h. ap₂ _&&_ (rest .1 (λ i l. h i (omega arith))) (h n (omega arith))),
     )
 
+-- one that does not pass is enough
+pub all-fails : (n : ℕ) (P : ℕ → Bool) (i : ℕ) → i < n → P i ≡ false → all n P ≡ false
+all-fails n P i l e = by (all n P) refl
+  where
+    by : (b : Bool) → all n P ≡ b → all n P ≡ false
+    by true f = absurd (true≢false (sym (all-iff n P .0 f i l) ∙ e))
+    by false f = f
+
 -- where not all pass, one is found that does not
 pub all-false : (n : ℕ) (P : ℕ → Bool) → all n P ≡ false → (i : ℕ) × (i < n) × (P i ≡ false)
 unfolding all

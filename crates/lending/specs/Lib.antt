@@ -1,2 +1,3 @@
 -- Definitions on lent memory.
 pub mod Pairs
+pub mod Memory

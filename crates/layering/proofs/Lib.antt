@@ -1,0 +1,6 @@
+-- Laws of the rounds.
+pub mod Chaining
+pub mod Stepping
+pub mod Storing
+pub mod Rounding
+pub mod Moving

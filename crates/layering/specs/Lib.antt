@@ -1,0 +1,2 @@
+-- Classes by layers, in lent memory.
+pub mod Work

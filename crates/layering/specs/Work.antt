@@ -1,0 +1,94 @@
+-- The rounds in the work slice. Its first 5 × n numbers hold, n each: the names of this layer, those of the next, the chains of the next layer's names in each
+-- class, the birth of each name, and its parent.
+use mathlib.Core.Path.{_≡_}
+use mathlib.Core.Logic.{_≢_}
+use mathlib.Core.Bool.{Bool, true, false}
+use mathlib.Core.List.{List}
+use Prim.Native.Nat.{ℕ, suc, _+_, _*_, _≤_, _<_}
+use lib.Dec.{eqb}
+use lib.ListN.{length, take}
+use Rattle.counting.specs.Lists.{at}
+use Rattle.counting.specs.Least.{name}
+use Rattle.counting.specs.Counts.{all}
+use Rattle.automaton.specs.Machine.{Machine}
+use Rattle.automaton.specs.Layers.{alikeNext}
+use Rattle.layering.specs.declared.rounds.Seek.{Seek}
+use Rattle.layering.specs.declared.rounds.Seek.the-variants.{Found, Last}
+
+-- the five numbers of a state
+abbrev pub this : List ℕ → ℕ → ℕ
+this work q = at work q
+
+abbrev pub later : ℕ → List ℕ → ℕ → ℕ
+later n work q = at work (n + q)
+
+abbrev pub link : ℕ → List ℕ → ℕ → ℕ
+link n work q = at work (2 * n + q)
+
+abbrev pub born : ℕ → List ℕ → ℕ → ℕ
+born n work q = at work (3 * n + q)
+
+abbrev pub from : ℕ → List ℕ → ℕ → ℕ
+from n work q = at work (4 * n + q)
+
+-- the next states of two states have the same names under every sign
+unfoldable pub sameNexts : Machine → List ℕ → ℕ → ℕ → Bool
+sameNexts M work q r = all (M .signs) (λ a. eqb (this work (M .next q a)) (this work (M .next r a)))
+
+-- The names of this layer: each a state not greater, and its own name.
+pub record Named (n : ℕ) (work : List ℕ) : Type 0 where
+  pub low : (q : ℕ) → q < n → this work q ≤ q
+  pub named : (q : ℕ) → q < n → this work (this work q) ≡ this work q
+
+-- a name of the next layer, in the class of r, between r and a bound
+pub record Between (n : ℕ) (work : List ℕ) (r end s : ℕ) : Type 0 where
+  pub above : r < s
+  pub below : s < end
+  pub named : later n work s ≡ s
+  pub class : this work s ≡ this work r
+
+-- The states below q are done: their names in the next layer are right, and from each such name the chain leads to the next one in its class; 0 ends a chain.
+pub record Done (M : Machine) (work : List ℕ) (q : ℕ) : Type 0 where
+  pub right : (s : ℕ) → s < q → later (M .size) work s ≡ name (alikeNext M (take (M .size) work)) s
+  pub ends : (r : ℕ) → r < q → later (M .size) work r ≡ r → link (M .size) work r ≡ 0 → (s : ℕ) → Between (M .size) work r q s → ⊥
+  pub leads : (r : ℕ) → r < q → later (M .size) work r ≡ r → link (M .size) work r ≢ 0 → Between (M .size) work r q (link (M .size) work r)
+  pub skips : (r : ℕ) → r < q → later (M .size) work r ≡ r → link (M .size) work r ≢ 0 → (s : ℕ) → Between (M .size) work r (link (M .size) work r) s → ⊥
+
+-- What going along the chain gives: the state's name in the next layer, which was there before it or is itself; or, its name being its own, the last name
+-- of its class before it.
+abbrev pub Sought : Machine → List ℕ → ℕ → Seek → Type 0
+Sought M work q (Found r) = (r ≤ q) × (name (alikeNext M (take (M .size) work)) q ≡ r) × (r ≡ q → this work q ≡ q)
+Sought M work q (Last r) =
+    (r < q)
+    × (later (M .size) work r ≡ r)
+    × (this work r ≡ this work q)
+    × (link (M .size) work r ≡ 0)
+    × (name (alikeNext M (take (M .size) work)) q ≡ q)
+
+-- What naming a state leaves: this layer's names as they were, one state more done, and births and parents as they were but for a new name's own.
+pub record Advanced (M : Machine) (before after : List ℕ) (q round : ℕ) (new : Bool) : Type 0 where
+  pub long : length after ≡ length before
+  pub same : (x : ℕ) → x < M .size → this after x ≡ this before x
+  pub laters : (x : ℕ) → x < M .size → x ≢ q → later (M .size) after x ≡ later (M .size) before x
+  pub done : Done M after (suc q)
+  pub births : (c : ℕ) → c < M .size → (c ≡ q → new ≡ false) → (born (M .size) after c ≡ born (M .size) before c) × (from (M .size) after c ≡ from (M .size) before c)
+  pub newborn : new ≡ true → (later (M .size) after q ≡ q) × (this before q < q) × (born (M .size) after q ≡ round) × (from (M .size) after q ≡ this before q)
+  pub quiet : new ≡ false → later (M .size) after q ≡ q → this before q ≡ q
+  pub beyond : (i : ℕ) → 5 * M .size ≤ i → at after i ≡ at before i
+
+-- A round so far: the states below q are named in the next layer, the names of this layer are as they were, and each new name has its birth and its parent.
+pub record Rounded (M : Machine) (before after : List ℕ) (round q : ℕ) (changed : Bool) : Type 0 where
+  pub long : length after ≡ length before
+  pub same : (x : ℕ) → x < M .size → this after x ≡ this before x
+  pub done : Done M after q
+  pub fresh : (c : ℕ) → c < q → later (M .size) after c ≡ c → this before c ≢ c → (born (M .size) after c ≡ round) × (from (M .size) after c ≡ this before c)
+  pub stale : (c : ℕ) → c < M .size → (c < q → later (M .size) after c ≡ c → this before c ≡ c) → (born (M .size) after c ≡ born (M .size) before c) × (from (M .size) after c ≡ from (M .size) before c)
+  pub quiet : changed ≡ false → (x : ℕ) → x < q → later (M .size) after x ≡ x → this before x ≡ x
+  pub busy : changed ≡ true → (x : ℕ) × (x < q) × (later (M .size) after x ≡ x) × (this before x < x)
+  pub beyond : (i : ℕ) → 5 * M .size ≤ i → at after i ≡ at before i
+
+-- The first q names of the next layer are taken over; all else is as it was.
+pub record Moved (n q : ℕ) (before after : List ℕ) : Type 0 where
+  pub long : length after ≡ length before
+  pub moved : (x : ℕ) → x < q → this after x ≡ later n before x
+  pub rest : (i : ℕ) → q ≤ i → at after i ≡ at before i

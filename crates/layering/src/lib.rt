@@ -1,0 +1,2 @@
+// Classes by layers: the rounds that both the layered call and the telling word run.
+pub mod rounds;

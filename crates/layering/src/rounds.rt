@@ -1,0 +1,135 @@
+// One round: the names of the next layer, in a few times n numbers of the work slice. A class that does not split costs one comparison for
+// each of its states.
+ghost use mathlib.Core.Path.{_≡_};
+ghost use mathlib.Core.List.{[]};
+ghost use mathlib.Core.Bool.{_||_};
+ghost use Prim.Native.Nat.{ℕ, _*_, _<_, _≤_};
+ghost use lib.ListN.{length, take};
+ghost use Rattle.counting.specs.Least.{name};
+ghost use Rattle.automaton.specs.Layers.{alikeNext};
+ghost use Rattle.table.specs.Encoding.{machineIn, Held};
+ghost use Rattle.layering.specs.Work.{sameNexts, Named, Done, Sought, Advanced, Rounded, Moved};
+use lending::number_at;
+use table::answer::Sizes;
+use table::fields::next_of;
+
+// Whether the next states of two states have the same names in this layer, under every sign.
+fn same_nexts(nexts: &[u8], sizes: Sizes, work: &[u16], q: usize, r: usize) -> bool
+    requires held { ⌜ Held (sizes .states) (sizes .signs) (sizes .start) (now nexts) ⌝ }
+    requires room { ⌜ sizes .states ≤ length (now work) ⌝ }
+    requires states { ⌜ (q < sizes .states) × (r < sizes .states) ⌝ }
+    ensures { λ t. ⌜ t ≡ sameNexts (machineIn (sizes .states) (sizes .signs) (sizes .start) [] (now (nexts .entry))) (now (work .entry)) q r ⌝ }
+{
+    let signs = sizes.signs;
+    let mut a = 0;
+    while a < signs {
+        let left = next_of(nexts, signs, q, a);
+        let right = next_of(nexts, signs, r, a);
+        if number_at(work, left) != number_at(work, right) {
+            return false;
+        }
+        a += 1;
+    }
+    true
+}
+
+// The name of a state in the next layer: one that was there before it, or its own, with the last of the chain that it then ends.
+pub enum Seek {
+    Found(usize),
+    Last(usize),
+}
+
+// Goes along the chain of the state's class to the first name whose next states have the same names.
+fn seek_name(nexts: &[u8], sizes: Sizes, work: &[u16], q: usize) -> Seek
+    requires held { ⌜ Held (sizes .states) (sizes .signs) (sizes .start) (now nexts) ⌝ }
+    requires room { ⌜ 5 * sizes .states ≤ length (now work) ⌝ }
+    requires state { ⌜ q < sizes .states ⌝ }
+    requires named { ⌜ Named (sizes .states) (now work) ⌝ }
+    requires done { ⌜ Done (machineIn (sizes .states) (sizes .signs) (sizes .start) [] (now nexts)) (now work) q ⌝ }
+    ensures { λ s. ⌜ Sought (machineIn (sizes .states) (sizes .signs) (sizes .start) [] (now (nexts .entry))) (now (work .entry)) q s ⌝ }
+{
+    let n = sizes.states;
+    let mut r = number_at(work, q);
+    loop {
+        if same_nexts(nexts, sizes, work, q, r) {
+            return Seek::Found(r);
+        }
+        let next = number_at(work, 2 * n + r);
+        if next == 0 {
+            return Seek::Last(r);
+        }
+        r = next;
+    }
+}
+
+// Names a state in the next layer, and says whether it is a new name; a new name notes the layer of its birth and the name it had.
+fn name_state(nexts: &[u8], sizes: Sizes, work: &mut [u16], q: usize, layer: usize) -> bool
+    requires held { ⌜ Held (sizes .states) (sizes .signs) (sizes .start) (now nexts) ⌝ }
+    requires room { ⌜ 5 * sizes .states ≤ length (now work) ⌝ }
+    requires state { ⌜ (q < sizes .states) × (layer < 65536) ⌝ }
+    requires named { ⌜ Named (sizes .states) (now work) ⌝ }
+    requires done { ⌜ Done (machineIn (sizes .states) (sizes .signs) (sizes .start) [] (now nexts)) (now work) q ⌝ }
+    ensures { λ t. ⌜ Advanced (machineIn (sizes .states) (sizes .signs) (sizes .start) [] (now (nexts .entry))) (now (work .entry)) (now (work .exit)) q layer t ⌝ }
+{
+    let n = sizes.states;
+    let own = number_at(work, q);
+    let sought = seek_name(nexts, sizes, work, q);
+    let found = n + q;
+    let chain = 2 * n;
+    let end = chain + q;
+    work[end] = 0;
+    match sought {
+        Seek::Found(r) => {
+            work[found] = r as u16;
+            false
+        }
+        Seek::Last(r) => {
+            let last = chain + r;
+            let birth = 3 * n + q;
+            let parent = 4 * n + q;
+            work[last] = q as u16;
+            work[found] = q as u16;
+            work[birth] = layer as u16;
+            work[parent] = own as u16;
+            true
+        }
+    }
+}
+
+fn either(a: bool, b: bool) -> bool
+    ensures { λ r. ⌜ r ≡ (a || b) ⌝ }
+{
+    if a { true } else { b }
+}
+
+// One round: the name of every state in the next layer; whether some name is new.
+pub fn run_round(nexts: &[u8], sizes: Sizes, work: &mut [u16], layer: usize) -> bool
+    requires held { ⌜ Held (sizes .states) (sizes .signs) (sizes .start) (now nexts) ⌝ }
+    requires room { ⌜ 5 * sizes .states ≤ length (now work) ⌝ }
+    requires small { ⌜ layer < 65536 ⌝ }
+    requires named { ⌜ Named (sizes .states) (now work) ⌝ }
+    ensures { λ t. ⌜ Rounded (machineIn (sizes .states) (sizes .signs) (sizes .start) [] (now (nexts .entry))) (now (work .entry)) (now (work .exit)) layer (sizes .states) t ⌝ }
+{
+    let n = sizes.states;
+    let mut changed = false;
+    let mut q = 0;
+    while q < n {
+        let fresh = name_state(nexts, sizes, work, q, layer);
+        changed = either(changed, fresh);
+        q += 1;
+    }
+    changed
+}
+
+// Takes the names of the next layer over.
+pub fn advance(work: &mut [u16], n: usize)
+    requires { ⌜ 2 * n ≤ length (now work) ⌝ }
+    ensures { λ _. ⌜ Moved n n (now (work .entry)) (now (work .exit)) ⌝ }
+{
+    let mut x = 0;
+    while x < n {
+        let place = n + x;
+        work[x] = work[place];
+        x += 1;
+    }
+}
