@@ -8,3 +8,4 @@ pub mod Reaching
 pub mod Rowlists
 pub mod Quotients
 pub mod Fewest
+pub mod Sampled

@@ -6,3 +6,4 @@ pub mod Telling
 pub mod Births
 pub mod Reach
 pub mod Quotient
+pub mod Samples

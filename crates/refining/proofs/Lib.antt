@@ -10,3 +10,4 @@ pub mod Marks
 pub mod Freshness
 pub mod Runs
 pub mod Demand
+pub mod Sampled
