@@ -4,3 +4,5 @@ pub mod Stepping
 pub mod Storing
 pub mod Rounding
 pub mod Moving
+pub mod Deepening
+pub mod Descent

@@ -1,2 +1,3 @@
 -- Classes by layers, in lent memory.
 pub mod Work
+pub mod Layered

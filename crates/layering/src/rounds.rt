@@ -8,6 +8,7 @@ ghost use lib.ListN.{length, take};
 ghost use Rattle.counting.specs.Least.{name};
 ghost use Rattle.automaton.specs.Layers.{alikeNext};
 ghost use Rattle.table.specs.Encoding.{machineIn, Held};
+ghost use Rattle.layering.specs.Layered.{InLayer, Settled};
 ghost use Rattle.layering.specs.Work.{sameNexts, Named, Done, Sought, Advanced, Rounded, Moved};
 use lending::number_at;
 use table::answer::Sizes;
@@ -131,5 +132,25 @@ pub fn advance(work: &mut [u16], n: usize)
         let place = n + x;
         work[x] = work[place];
         x += 1;
+    }
+}
+
+// Runs rounds from the first names on until none finds a new name; gives how many did.
+pub fn settle(nexts: &[u8], sizes: Sizes, work: &mut [u16]) -> usize
+    requires held { ⌜ Held (sizes .states) (sizes .signs) (sizes .start) (now nexts) ⌝ }
+    requires room { ⌜ 5 * sizes .states ≤ length (now work) ⌝ }
+    requires begun { ⌜ InLayer (machineIn (sizes .states) (sizes .signs) (sizes .start) (take (sizes .states) (now work)) (now nexts)) 0 (now work) ⌝ }
+    ensures { λ r. ⌜ Settled (machineIn (sizes .states) (sizes .signs) (sizes .start) (take (sizes .states) (now (work .entry))) (now (nexts .entry))) (now (work .entry)) (now (work .exit)) r ⌝ }
+{
+    let n = sizes.states;
+    let mut i = 0;
+    loop {
+        let next = i + 1;
+        let changed = run_round(nexts, sizes, work, next);
+        if !changed {
+            return i;
+        }
+        advance(work, n);
+        i = next;
     }
 }
