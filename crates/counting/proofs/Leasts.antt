@@ -1,10 +1,12 @@
 -- Laws of `least`: where it stands, that it is the first, and how to show that a number is it.
-use mathlib.Core.Path.{_≡_, refl, _∙_}
+use mathlib.Core.Path.{_≡_, refl, sym, subst, _∙_}
 use mathlib.Core.Bool.{Bool, true, false}
 use Prim.Native.Nat.{ℕ, zero, suc, _≤_, _<_}
 use native.Mathlib.Nat.{le-of-suc-le-suc, not-suc-le-zero}
 use native.Mathlib.Omega.{arith}
-use native.Mathlib.Decide.{decLt}
+use native.Mathlib.Decide.{decLt, ℕ-discrete}
+use borrow.Author.Tests.{eq-eqb, ne-eqb}
+use lib.Dec.{eqb}
 use Rattle.counting.specs.Least.{least, pick}
 
 -- the least number is up to the bound; below it no number passes; and it passes, where it is below the bound
@@ -71,3 +73,31 @@ least-cong n P Q h = least-unique n P j (record { within = s .within; before = �
 
     below : (i : ℕ) → i < j → i < n
     below i l = let w : j ≤ n = s .within in omega arith
+
+-- the least of one number more, where that one passes
+pub least-at : (n : ℕ) (P : ℕ → Bool) (i : ℕ) → IsLeast n P i → P n ≡ true → IsLeast (suc n) P i
+least-at n P i h e = record {
+  within = omega (arith, h .within);
+  before = h .before;
+  holds = λ l. elim (ℕ-discrete i n) [ yes z ↦ subst (λ (j : ℕ). P j ≡ true) (sym z) e | no z ↦ h .holds (omega arith) ];
+}
+
+-- and where it does not
+pub least-past : (n : ℕ) (P : ℕ → Bool) (i : ℕ) → IsLeast n P i → P n ≡ false → IsLeast (suc n) P (pick (eqb i n) (suc n) i)
+unfolding pick
+least-past n P i h e = elim (ℕ-discrete i n) [
+  | yes z ↦
+      rw (eq-eqb i n z)
+      record {
+        within = omega arith;
+        before = λ j l. elim (ℕ-discrete j n) [ yes y ↦ subst (λ (x : ℕ). P x ≡ false) (sym y) e | no y ↦ h .before j (omega arith) ];
+        holds = λ l. absurd (omega arith);
+      }
+  | no z ↦
+      rw (ne-eqb i n z)
+      record {
+        within = omega (arith, h .within);
+        before = h .before;
+        holds = λ l. h .holds (omega (arith, h .within));
+      }
+]

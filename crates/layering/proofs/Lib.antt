@@ -6,3 +6,5 @@ pub mod Rounding
 pub mod Moving
 pub mod Deepening
 pub mod Descent
+pub mod Beginning
+pub mod Starting

@@ -3,8 +3,10 @@ use mathlib.Core.Path.{_≡_}
 use mathlib.Core.Logic.{_≢_}
 use mathlib.Core.List.{List}
 use Prim.Native.Nat.{ℕ, _*_, _≤_, _<_}
+use lib.Dec.{eqb}
 use lib.ListN.{length}
 use Rattle.counting.specs.Lists.{at}
+use Rattle.counting.specs.Least.{name}
 use Rattle.automaton.specs.Machine.{Machine}
 use Rattle.automaton.specs.Layers.{layer, rounds}
 use Rattle.automaton.specs.Births.{birth, parent}
@@ -23,3 +25,10 @@ pub record Settled (M : Machine) (before after : List ℕ) (r : ℕ) : Type 0 wh
   pub last : r ≡ rounds M
   pub layered : InLayer M r after
   pub beyond : (i : ℕ) → 5 * M .size ≤ i → at after i ≡ at before i
+
+-- The first names so far: each of the first q states has the first state of its mark for a name, born in layer 0; all beyond the first 5 × n numbers is as it was.
+pub record Begun (n : ℕ) (marks : List ℕ) (q : ℕ) (before after : List ℕ) : Type 0 where
+  pub long : length after ≡ length before
+  pub names : (x : ℕ) → x < q → this after x ≡ name (λ y z. eqb (at marks y) (at marks z)) x
+  pub births : (c : ℕ) → c < q → born n after c ≡ 0
+  pub beyond : (i : ℕ) → 5 * n ≤ i → at after i ≡ at before i

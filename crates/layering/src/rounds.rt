@@ -5,11 +5,13 @@ ghost use mathlib.Core.List.{[]};
 ghost use mathlib.Core.Bool.{_||_};
 ghost use Prim.Native.Nat.{ℕ, _*_, _<_, _≤_};
 ghost use lib.ListN.{length, take};
+ghost use Rattle.counting.specs.Lists.{at};
 ghost use Rattle.counting.specs.Least.{name};
 ghost use Rattle.automaton.specs.Layers.{alikeNext};
 ghost use Rattle.table.specs.Encoding.{machineIn, Held};
 ghost use Rattle.layering.specs.Layered.{InLayer, Settled};
 ghost use Rattle.layering.specs.Work.{sameNexts, Named, Done, Sought, Advanced, Rounded, Moved};
+use crate::first::first_names;
 use lending::number_at;
 use table::answer::Sizes;
 use table::fields::next_of;
@@ -104,7 +106,7 @@ fn either(a: bool, b: bool) -> bool
 }
 
 // One round: the name of every state in the next layer; whether some name is new.
-pub fn run_round(nexts: &[u8], sizes: Sizes, work: &mut [u16], layer: usize) -> bool
+fn run_round(nexts: &[u8], sizes: Sizes, work: &mut [u16], layer: usize) -> bool
     requires held { ⌜ Held (sizes .states) (sizes .signs) (sizes .start) (now nexts) ⌝ }
     requires room { ⌜ 5 * sizes .states ≤ length (now work) ⌝ }
     requires small { ⌜ layer < 65536 ⌝ }
@@ -123,7 +125,7 @@ pub fn run_round(nexts: &[u8], sizes: Sizes, work: &mut [u16], layer: usize) -> 
 }
 
 // Takes the names of the next layer over.
-pub fn advance(work: &mut [u16], n: usize)
+fn advance(work: &mut [u16], n: usize)
     requires { ⌜ 2 * n ≤ length (now work) ⌝ }
     ensures { λ _. ⌜ Moved n n (now (work .entry)) (now (work .exit)) ⌝ }
 {
@@ -136,7 +138,7 @@ pub fn advance(work: &mut [u16], n: usize)
 }
 
 // Runs rounds from the first names on until none finds a new name; gives how many did.
-pub fn settle(nexts: &[u8], sizes: Sizes, work: &mut [u16]) -> usize
+fn settle(nexts: &[u8], sizes: Sizes, work: &mut [u16]) -> usize
     requires held { ⌜ Held (sizes .states) (sizes .signs) (sizes .start) (now nexts) ⌝ }
     requires room { ⌜ 5 * sizes .states ≤ length (now work) ⌝ }
     requires begun { ⌜ InLayer (machineIn (sizes .states) (sizes .signs) (sizes .start) (take (sizes .states) (now work)) (now nexts)) 0 (now work) ⌝ }
@@ -153,4 +155,15 @@ pub fn settle(nexts: &[u8], sizes: Sizes, work: &mut [u16]) -> usize
         advance(work, n);
         i = next;
     }
+}
+
+// Finds the classes of the states by layers: the last layer, with births and parents, and r.
+pub fn find_classes(marks: &[u8], nexts: &[u8], sizes: Sizes, work: &mut [u16]) -> usize
+    requires marked { ⌜ (length (now marks) ≡ sizes .states) × ((q : ℕ) → q < sizes .states → at (now marks) q < 2) ⌝ }
+    requires held { ⌜ Held (sizes .states) (sizes .signs) (sizes .start) (now nexts) ⌝ }
+    requires room { ⌜ 5 * sizes .states ≤ length (now work) ⌝ }
+    ensures { λ r. ⌜ Settled (machineIn (sizes .states) (sizes .signs) (sizes .start) (now (marks .entry)) (now (nexts .entry))) (now (work .entry)) (now (work .exit)) r ⌝ }
+{
+    first_names(marks, work, sizes.states);
+    settle(nexts, sizes, work)
 }

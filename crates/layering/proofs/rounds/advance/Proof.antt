@@ -9,7 +9,6 @@ use Rattle.layering.specs.Work.{Moved}
 use Rattle.layering.proofs.Moving.{moved-none, moved-more}
 use Rattle.layering.proofs.rounds.advance.Statement.{statement}
 use Rattle.layering.proofs.rounds.advance.Tie as tie
-use Rattle.layering.proofs.rounds.advance.Lts as lts
 
 abbrev Inv-loop : tie.InvT-loop
 Inv-loop work₀ n x₀ work x = (x ≤ n) × Moved n x work₀ work

@@ -13,8 +13,6 @@ use Rattle.layering.proofs.Descent.{in-layer-named, round-small, round-
 use native.Mathlib.Omega.{arith}
 use Rattle.layering.proofs.rounds.settle.Statement.{statement}
 use Rattle.layering.proofs.rounds.settle.Tie as tie
-use Rattle.layering.proofs.rounds.settle.Reads as reads
-use Rattle.layering.proofs.rounds.settle.Lts as lts
 
 abbrev Inv-loop : tie.InvT-loop
 Inv-loop nexts sizes work₀ n i₀ work i =
@@ -43,7 +41,7 @@ run-round-requires c κs =
       (
         omega (arith, l .inv .0, b .pre .1 .0),
         (
-          round-small (z .states) (z .signs) (z .start) (take (z .states) (now (b .args .work))) (now (b .args .nexts)) (b .pre .0) (now (b .args .work)) (l .work) (l .i) (b .pre .1 .0) (l .inv),
+          omega (arith, round-small (z .states) (z .signs) (z .start) (take (z .states) (now (b .args .work))) (now (b .args .nexts)) (b .pre .0) (now (b .args .work)) (l .work) (l .i) (b .pre .1 .0) (l .inv)),
           in-layer-named (machineIn (z .states) (z .signs) (z .start) (take (z .states) (now (b .args .work))) (now (b .args .nexts))) (l .i) (l .work) (l .inv .1),
         ),
       ),

@@ -1,0 +1,95 @@
+-- The first names, state by state.
+use mathlib.Core.Path.{_≡_, refl, sym, subst, _∙_}
+use mathlib.Core.Bool.{Bool, true, false, not}
+use mathlib.Core.List.{List}
+use Prim.Native.Nat.{ℕ, suc, _+_, _*_, _≤_, _<_}
+use native.Mathlib.Nat.{not-suc-le-zero}
+use native.Mathlib.Numerals.{add-one}
+use native.Mathlib.Decide.{ℕ-discrete}
+use native.Mathlib.Omega.{arith}
+use borrow.Author.Tests.{eqb-true, eqb-false, eq-eqb, ne-eqb}
+use lib.Dec.{eqb}
+use lib.ListN.{length, set, length-set}
+use lib.Seq.{getD-set-same, getD-set-other}
+use Rattle.counting.specs.Lists.{at}
+use Rattle.counting.specs.Least.{least, name, pick}
+use Rattle.counting.proofs.Cases.{by-test}
+use Rattle.counting.proofs.Leasts.{IsLeast, least-unique, least-at, least-past}
+use Rattle.layering.specs.Work.{this, born}
+use Rattle.layering.specs.Layered.{Begun}
+
+pub begun-none : (n : ℕ) (marks w : List ℕ) → Begun n marks 0 w w
+begun-none n marks w = record {
+  long = refl;
+  names = λ x l. absurd (not-suc-le-zero l);
+  births = λ c l. absurd (not-suc-le-zero l);
+  beyond = λ i l. refl;
+}
+
+pub begun-more : (n q v : ℕ) (marks w₀ w : List ℕ) → q < n → 5 * n ≤ length w → v ≡ name (λ y z. eqb (at marks y) (at marks z)) q → Begun n marks q w₀ w → Begun n marks (q + 1) w₀ (set (set w (3 * n + q) 0) q v)
+begun-more n q v marks w₀ w l room e b = record {
+  long = length-set w₁ q v ∙ long₁ ∙ b .long;
+  names = λ x m.
+      elim (ℕ-discrete x q) [
+        | yes z ↦ subst (λ (y : ℕ). this (set w₁ q v) y ≡ name (λ y z. eqb (at marks y) (at marks z)) y) (sym z) (getD-set-same w₁ q v 0 (omega (arith, long₁)) ∙ e)
+        | no z ↦ getD-set-other w₁ q x v 0 z ∙ getD-set-other w (3 * n + q) x 0 0 (omega arith) ∙ b .names x (omega arith)
+      ];
+  births = λ c m.
+      elim (ℕ-discrete c q) [
+        | yes z ↦ subst (λ (y : ℕ). born n (set w₁ q v) y ≡ 0) (sym z) (getD-set-other w₁ q (3 * n + q) v 0 (omega arith) ∙ getD-set-same w (3 * n + q) 0 0 (omega arith))
+        | no z ↦ getD-set-other w₁ q (3 * n + c) v 0 (omega arith) ∙ getD-set-other w (3 * n + q) (3 * n + c) 0 0 (omega arith) ∙ b .births c (omega arith)
+      ];
+  beyond = λ i m. getD-set-other w₁ q i v 0 (omega arith) ∙ getD-set-other w (3 * n + q) i 0 0 (omega arith) ∙ b .beyond i m;
+}
+  where
+    w₁ : List ℕ
+    w₁ = set w (3 * n + q) 0
+
+    long₁ : length w₁ ≡ length w
+    long₁ = length-set w (3 * n + q) 0
+
+-- the states of a mark
+abbrev pub has : List ℕ → ℕ → ℕ → Bool
+has marks m y = eqb (at marks y) m
+
+-- the first state of a mark, with one state more
+pub past-least : (q m x : ℕ) (marks : List ℕ) (here : Bool) → has marks m q ≡ here → IsLeast q (has marks m) x → IsLeast (q + 1) (has marks m) (pick here x (pick (eqb x q) (suc q) x))
+unfolding pick
+past-least q m x marks true e h = subst (λ (p : ℕ). IsLeast p (has marks m) x) (sym (add-one q)) (least-at q (has marks m) x h e)
+past-least q m x marks false e h = subst (λ (p : ℕ). IsLeast p (has marks m) (pick (eqb x q) (suc q) x)) (sym (add-one q)) (least-past q (has marks m) x h e)
+
+-- a state's name is the first state of its mark
+pub first-name : (q zero one : ℕ) (marks : List ℕ) → at marks q < 2 → IsLeast q (has marks 0) zero → IsLeast q (has marks 1) one
+    → pick (eqb (at marks q) 0) zero one ≡ name (λ y z. eqb (at marks y) (at marks z)) q
+unfolding pick name
+first-name q zero one marks l h k =
+    by-test (eqb (at marks q) 0)
+    (λ t. rw t (named 0 zero (eqb-true _ _ t) h))
+    (λ t. rw t (named 1 one (omega (arith, eqb-false (at marks q) 0 t)) k))
+  where
+    named : (m i : ℕ) → at marks q ≡ m → IsLeast q (has marks m) i → i ≡ least (suc q) (λ y. eqb (at marks y) (at marks q))
+    named m i e g = rw e (sym (least-unique (suc q) (has marks m) i (least-at q (has marks m) i g (eq-eqb _ _ e))))
+
+pub nothing-least : (marks : List ℕ) (m : ℕ) → IsLeast 0 (has marks m) 0
+nothing-least marks m = record { within = omega arith; before = λ j l. absurd (not-suc-le-zero l); holds = λ l. absurd (not-suc-le-zero l) }
+
+pub either-small : (plain : Bool) (q zero one : ℕ) → zero ≤ q → one ≤ q → pick plain zero one ≤ q
+unfolding pick
+either-small true q zero one k l = k
+either-small false q zero one k l = l
+
+-- of two marks, one is the other's opposite
+pub other-mark : (m : ℕ) → m < 2 → eqb m 1 ≡ not (eqb m 0)
+other-mark m l = elim (ℕ-discrete m 0) [
+  | yes z ↦ rw z refl
+  | no z ↦ let o : m ≡ 1 = omega arith in rw o refl
+]
+
+-- the ways out of `past`
+pub past-on : (here : Bool) (x q : ℕ) → here ≡ false → x ≡ q → q + 1 ≡ pick here x (pick (eqb x q) (suc q) x)
+unfolding pick
+past-on here x q e f = rw (e, eq-eqb x q f) (add-one q)
+
+pub past-stays : (here : Bool) (x q : ℕ) → here ≡ false → (x ≡ q → ⊥) → x ≡ pick here x (pick (eqb x q) (suc q) x)
+unfolding pick
+past-stays here x q e f = rw (e, ne-eqb x q f) refl

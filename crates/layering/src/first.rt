@@ -1,0 +1,50 @@
+// Layer 0: the first names, by the marks, in one pass.
+ghost use mathlib.Core.Path.{_≡_};
+ghost use Prim.Native.Nat.{ℕ, suc, _*_, _<_, _≤_};
+ghost use lib.Dec.{eqb};
+ghost use lib.ListN.{length};
+ghost use Rattle.counting.specs.Lists.{at};
+ghost use Rattle.counting.specs.Least.{pick};
+ghost use Rattle.layering.specs.Layered.{Begun};
+use table::fields::mark_of;
+
+fn either_of(plain: bool, zero: usize, one: usize) -> usize
+    ensures { λ r. ⌜ r ≡ pick plain zero one ⌝ }
+{
+    if plain { zero } else { one }
+}
+
+// The first state of a mark among one state more: it stays where that state has the mark, and goes past it where there was none before.
+fn past(x: usize, q: usize, here: bool) -> usize
+    requires { ⌜ q < 65536 ⌝ }
+    ensures { λ r. ⌜ r ≡ pick here x (pick (eqb x q) (suc q) x) ⌝ }
+{
+    if here {
+        x
+    } else if x == q {
+        q + 1
+    } else {
+        x
+    }
+}
+
+// Names each state by the first state of its mark, and notes that these names are born in layer 0.
+pub fn first_names(marks: &[u8], work: &mut [u16], n: usize)
+    requires marked { ⌜ (length (now marks) ≡ n) × ((q : ℕ) → q < n → at (now marks) q < 2) ⌝ }
+    requires room { ⌜ (5 * n ≤ length (now work)) × (n ≤ 1024) ⌝ }
+    ensures { λ _. ⌜ Begun n (now (marks .entry)) n (now (work .entry)) (now (work .exit)) ⌝ }
+{
+    let mut zero = 0;
+    let mut one = 0;
+    let mut q = 0;
+    while q < n {
+        let plain = mark_of(marks, q) == 0;
+        let name = either_of(plain, zero, one);
+        let birth = 3 * n + q;
+        work[birth] = 0;
+        work[q] = name as u16;
+        zero = past(zero, q, plain);
+        one = past(one, q, !plain);
+        q += 1;
+    }
+}
