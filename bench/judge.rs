@@ -21,13 +21,9 @@ fn line(name: &str, table: &Table) -> f64 {
     timing::line(
         name,
         file.len(),
-        &mut [
-            &mut || {
-                black_box(library::judge(black_box(&file)));
-            },
-            &mut || {
-                black_box(second::judge(black_box(&file))).ok();
-            },
+        vec![
+            timing::timed(|| library::judge(black_box(&file))),
+            timing::timed(|| second::judge(black_box(&file))),
         ],
     )
 }

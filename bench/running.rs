@@ -42,13 +42,9 @@ fn line(name: &str, call: &Call, file: &[u8], lent: &[u8]) -> f64 {
     timing::line(
         name,
         file.len(),
-        &mut [
-            &mut || {
-                black_box((call.library)(black_box(file), black_box(lent)));
-            },
-            &mut || {
-                black_box((call.second)(black_box(file), black_box(lent))).ok();
-            },
+        vec![
+            timing::timed(|| (call.library)(black_box(file), black_box(lent))),
+            timing::timed(|| (call.second)(black_box(file), black_box(lent))),
         ],
     )
 }

@@ -28,16 +28,10 @@ fn line(case: &Case) -> f64 {
     timing::line(
         case.name,
         file.len(),
-        &mut [
-            &mut || {
-                black_box(library());
-            },
-            &mut || {
-                black_box(second()).ok();
-            },
-            &mut || {
-                black_box(moore()).ok();
-            },
+        vec![
+            timing::timed(library),
+            timing::timed(second),
+            timing::timed(moore),
         ],
     )
 }

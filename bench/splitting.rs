@@ -45,14 +45,7 @@ fn line(case: &Case) -> f64 {
     timing::line(
         case.name,
         file.len(),
-        &mut [
-            &mut || {
-                black_box(library());
-            },
-            &mut || {
-                black_box(second());
-            },
-        ],
+        vec![timing::timed(library), timing::timed(second)],
     )
 }
 

@@ -37,14 +37,7 @@ fn line(case: &Case) -> f64 {
     timing::line(
         case.name,
         file.len(),
-        &mut [
-            &mut || {
-                black_box(library());
-            },
-            &mut || {
-                black_box(second()).ok();
-            },
-        ],
+        vec![timing::timed(library), timing::timed(second)],
     )
 }
 

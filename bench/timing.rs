@@ -1,6 +1,7 @@
 // Medians of calls timed in turns, one line a case, and the largest ratio allowed.
 // Rests on the standard library alone.
 
+use std::hint::black_box;
 use std::process::ExitCode;
 use std::time::Instant;
 
@@ -35,8 +36,17 @@ pub fn table(calls: &[&str], lines: impl FnOnce() -> f64) -> ExitCode {
     }
 }
 
+/// A call that is made for its time alone.
+pub type Timed<'a> = Box<dyn FnMut() + 'a>;
+
+pub fn timed<'a, T>(mut call: impl FnMut() -> T + 'a) -> Timed<'a> {
+    Box::new(move || {
+        black_box(call());
+    })
+}
+
 /// Times the calls of one case, prints its line and gives the ratio of the first to the last.
-pub fn line(case: &str, bytes: usize, calls: &mut [&mut dyn FnMut()]) -> f64 {
+pub fn line(case: &str, bytes: usize, calls: Vec<Timed>) -> f64 {
     let medians = medians(calls);
     print!("{case:<16} {bytes:>7}");
     for median in &medians {
@@ -61,7 +71,7 @@ fn most() -> Result<Option<f64>, String> {
 }
 
 /// The median nanoseconds of each call; in every repetition each has its turn.
-fn medians(calls: &mut [&mut dyn FnMut()]) -> Vec<f64> {
+fn medians(mut calls: Vec<Timed>) -> Vec<f64> {
     let once: Vec<f64> = calls.iter_mut().map(|call| time(1, call)).collect();
     let times: Vec<usize> = once
         .iter()
