@@ -59,13 +59,13 @@ past-least q m x marks true e h = subst (λ (p : ℕ). IsLeast p (has marks m) x
 past-least q m x marks false e h = subst (λ (p : ℕ). IsLeast p (has marks m) (pick (eqb x q) (suc q) x)) (sym (add-one q)) (least-past q (has marks m) x h e)
 
 -- a state's name is the first state of its mark
-pub first-name : (q zero one : ℕ) (marks : List ℕ) → at marks q < 2 → IsLeast q (has marks 0) zero → IsLeast q (has marks 1) one
-    → pick (eqb (at marks q) 0) zero one ≡ name (λ y z. eqb (at marks y) (at marks z)) q
+pub first-name : (q x y : ℕ) (marks : List ℕ) → at marks q < 2 → IsLeast q (has marks 0) x → IsLeast q (has marks 1) y
+    → pick (eqb (at marks q) 0) x y ≡ name (λ y z. eqb (at marks y) (at marks z)) q
 unfolding pick name
-first-name q zero one marks l h k =
+first-name q x y marks l h k =
     by-test (eqb (at marks q) 0)
-    (λ t. rw t (named 0 zero (eqb-true _ _ t) h))
-    (λ t. rw t (named 1 one (omega (arith, eqb-false (at marks q) 0 t)) k))
+    (λ t. rw t (named 0 x (eqb-true _ _ t) h))
+    (λ t. rw t (named 1 y (omega (arith, eqb-false (at marks q) 0 t)) k))
   where
     named : (m i : ℕ) → at marks q ≡ m → IsLeast q (has marks m) i → i ≡ least (suc q) (λ y. eqb (at marks y) (at marks q))
     named m i e g = rw e (sym (least-unique (suc q) (has marks m) i (least-at q (has marks m) i g (eq-eqb _ _ e))))
@@ -73,10 +73,10 @@ first-name q zero one marks l h k =
 pub nothing-least : (marks : List ℕ) (m : ℕ) → IsLeast 0 (has marks m) 0
 nothing-least marks m = record { within = omega arith; before = λ j l. absurd (not-suc-le-zero l); holds = λ l. absurd (not-suc-le-zero l) }
 
-pub either-small : (plain : Bool) (q zero one : ℕ) → zero ≤ q → one ≤ q → pick plain zero one ≤ q
+pub either-small : (plain : Bool) (q x y : ℕ) → x ≤ q → y ≤ q → pick plain x y ≤ q
 unfolding pick
-either-small true q zero one k l = k
-either-small false q zero one k l = l
+either-small true q x y k l = k
+either-small false q x y k l = l
 
 -- of two marks, one is the other's opposite
 pub other-mark : (m : ℕ) → m < 2 → eqb m 1 ≡ not (eqb m 0)
