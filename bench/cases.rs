@@ -34,7 +34,7 @@ pub fn cases() -> Vec<Case> {
     let random = &mut Random::new(SEED);
     let mergeable = copies(random, 1_024, 31);
     vec![
-        Case::new("random", &scattered(random, 1_000, 32)),
+        Case::new("random", &scattered(random, 1_024, 31)),
         Case::new("chain", &chain(random, 1_024, 31)),
         Case::new("mergeable", &renamed(random, &mergeable)),
         Case::new("halving", &halving(31)),

@@ -1,5 +1,6 @@
-// Times the telling word by the library and by the second program, in turns: for two states that
-// are alike, where there are such. Rests on the library, linked as libwylgentip.a, and on tests/.
+// Times the telling word by the library, by the second program, and the library's layered call, in
+// turns: for two states that are alike, where there are such. Rests on the library, linked as
+// libwylgentip.a, and on tests/.
 
 #[allow(dead_code)]
 mod cases;
@@ -11,7 +12,7 @@ use std::hint::black_box;
 use std::process::ExitCode;
 
 use cases::{cases, Case};
-use parts::interface::telling as library;
+use parts::interface::{layering, telling as library};
 use parts::second::{automaton::Automaton, moore, telling as second};
 
 /// The first two states that are alike; 0 and 1 where none are.
@@ -30,6 +31,7 @@ fn line(case: &Case) -> f64 {
     let [p, q] = pair(file);
     let mut lent = [(); 2].map(|()| (case.work(), vec![0; case.states]));
     let [(work, word), (second_work, second_word)] = &mut lent;
+    let (mut layered_work, mut classes) = (case.work(), vec![0; case.states]);
     let mut library = || library::tell(black_box(file), p, q, work, word);
     let mut second = || second::tell(black_box(file), p, q, second_work, second_word);
     let told = second().expect("an accepted file");
@@ -37,13 +39,17 @@ fn line(case: &Case) -> f64 {
     timing::line(
         case.name,
         file.len(),
-        vec![timing::timed(library), timing::timed(second)],
+        vec![
+            timing::timed(library),
+            timing::timed(second),
+            timing::timed(|| layering::layers(black_box(file), &mut layered_work, &mut classes)),
+        ],
     )
 }
 
 /// The largest ratio counts.
 fn main() -> ExitCode {
-    timing::table(&["library", "second"], || {
+    timing::table(&["library", "second", "layered"], || {
         cases().iter().map(line).fold(0.0, f64::max)
     })
 }

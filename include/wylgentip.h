@@ -2,8 +2,8 @@
  *
  * Link with target/staticlib/libwylgentip.a, which `rt staticlib wylgentip` writes.
  * Every call takes any bytes and any lengths and returns; the caller checks nothing beforehand.
- * A pointer that is lent with a length must point to that many bytes for the time of the call; with
- * the length 0 nothing is read through it.
+ * A pointer that is lent with a length must point to that many bytes, or numbers of two bytes, for the time of the call, and
+ * slices lent to one call must not overlap; with the length 0 nothing is read or written through it.
  *
  * Refusals. Each has a number and a place:
  *    1  fewer than 3 bytes left for a field's head, or fewer than its length for its body: the file's length
@@ -15,7 +15,13 @@
  *    7  a mark is neither 0 nor 1: the first such mark
  *    8  a next state is n or more: the first byte of the first such
  *    9  a line is to be run and k isn't 47: 0
- *   10  a sign of a lent word is k or more: the index of the first such
+ *   10  an asked state is n or more: 0 for the first, else 1; a sign of a lent word is k or more: the index of the first such
+ *   11  the work slice has fewer than 16 x n numbers: 16 x n
+ *   12  a lent result is shorter than the result: the length needed
+ *
+ * Memory. On 1 to 11 all lent memory stays as it was. On 12 the first 16 x n numbers of the work slice are 0, and nothing else
+ * changes. They are 0 after an accepted call too; beyond them, and beyond the end of a result, nothing changes. What lent memory
+ * held before the call changes no answer.
  */
 #ifndef WYLGENTIP_H
 #define WYLGENTIP_H
@@ -65,6 +71,34 @@ wyl_ran wyl_run_word(const uint8_t *file, size_t length, const uint8_t *word, si
  * : 42, = 43, byte 13 44, byte 10 45; every other byte 46. Judges the whole file. Refuses with 1 to 8, then 9.
  * Reads the file and the line and writes nothing. */
 wyl_ran wyl_run_line(const uint8_t *file, size_t length, const uint8_t *line, size_t bytes);
+
+/* number 0: the number of classes and the rounds. Any other number is that of the refusal, and the rest is 0. */
+typedef struct {
+    size_t number;
+    size_t place;
+    size_t classes;
+    size_t rounds;
+} wyl_layered;
+
+/* The classes by layers: the name of each state's class, which is its least state, at the front of classes. Judges the whole
+ * file. Refuses with 1 to 8, then 11 (work), then 12 at n (classes). */
+wyl_layered wyl_layers(const uint8_t *file, size_t length, uint16_t *work, size_t work_length, uint16_t *classes,
+                       size_t classes_length);
+
+/* number 0: apart is 1, and length is that of the shortest word that tells the two states apart, the first in sign order among
+ * those; or apart is 0, length is 0, and no word does. Any other number is that of the refusal, and the rest is 0. */
+typedef struct {
+    size_t number;
+    size_t place;
+    size_t apart;
+    size_t length;
+} wyl_told;
+
+/* The word that tells two states apart, one sign a byte, at the front of word; a word has at most n - 2 signs, and two states
+ * that are alike need no room. Judges the whole file. Refuses with 1 to 8, then 10 (first, second), then 11 (work), then 12 at
+ * the word's length. */
+wyl_told wyl_tell(const uint8_t *file, size_t length, size_t first, size_t second, uint16_t *work, size_t work_length,
+                  uint8_t *word, size_t word_length);
 
 #ifdef __cplusplus
 }

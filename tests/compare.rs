@@ -8,16 +8,13 @@ mod damage;
 mod generate;
 mod interface;
 mod judging;
-#[cfg(awaited)]
 mod layering;
 mod lent;
 mod running;
 mod second;
 #[cfg(awaited)]
 mod shrinking;
-#[cfg(awaited)]
 mod splitting;
-#[cfg(awaited)]
 mod telling;
 
 const _: () = assert!(judging::LEAST_FILES >= 200_000);

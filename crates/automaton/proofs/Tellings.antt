@@ -20,24 +20,24 @@ use Rattle.automaton.proofs.Alikes.{layer-zero, layer-suc, layer-words}
 use Rattle.automaton.proofs.Settling.{classes-same}
 
 -- i is the first place below n where f and g differ, or is not below n
-record FirstDiffers (n : ℕ) (f g : ℕ → ℕ) (i : ℕ) : Type 0 where
-  before : (j : ℕ) → j < i → f j ≡ g j
-  here : i < n → f i ≢ g i
+pub record FirstDiffers (n : ℕ) (f g : ℕ → ℕ) (i : ℕ) : Type 0 where
+  pub before : (j : ℕ) → j < i → f j ≡ g j
+  pub here : i < n → f i ≢ g i
 
 first-differs : (n : ℕ) (f g : ℕ → ℕ) → FirstDiffers n f g (least n (λ i. not (eqb (f i) (g i))))
 first-differs n f g =
     let r = least-is n (λ i. not (eqb (f i) (g i))) in
     record { before = λ j h. eqb-true _ _ (not-false _ (r .before j h)); here = λ h. eqb-false _ _ (not-true _ (r .holds h)) }
 
-differs-below : (n i : ℕ) {f g : ℕ → ℕ} → FirstDiffers n f g i → ¬ ((j : ℕ) → j < n → f j ≡ g j) → i < n
+pub differs-below : (n i : ℕ) {f g : ℕ → ℕ} → FirstDiffers n f g i → ¬ ((j : ℕ) → j < n → f j ≡ g j) → i < n
 differs-below n i r u = elim (decLt i n) [ yes l ↦ l | no l ↦ absurd (u (λ j m. r .before j (omega arith))) ]
 
 module _ (M : Machine) where
-  sign-differs : (xs : List ℕ) (p q : ℕ) → FirstDiffers (M .signs) (λ a. at xs (M .next p a)) (λ a. at xs (M .next q a)) (partingSign M xs p q)
+  pub sign-differs : (xs : List ℕ) (p q : ℕ) → FirstDiffers (M .signs) (λ a. at xs (M .next p a)) (λ a. at xs (M .next q a)) (partingSign M xs p q)
   unfolding partingSign
   sign-differs xs p q = first-differs _ _ _
 
-  depth-differs : (p q : ℕ) → FirstDiffers (suc (rounds M)) (λ i. at (layer M i) p) (λ i. at (layer M i) q) (depth M p q)
+  pub depth-differs : (p q : ℕ) → FirstDiffers (suc (rounds M)) (λ i. at (layer M i) p) (λ i. at (layer M i) q) (depth M p q)
   unfolding depth
   depth-differs p q = first-differs _ _ _
 

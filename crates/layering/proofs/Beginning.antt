@@ -15,38 +15,46 @@ use Rattle.counting.specs.Lists.{at}
 use Rattle.counting.specs.Least.{least, name, pick}
 use Rattle.counting.proofs.Cases.{by-test}
 use Rattle.counting.proofs.Leasts.{IsLeast, least-unique, least-at, least-past}
-use Rattle.layering.specs.Work.{this, born}
-use Rattle.layering.specs.Layered.{Begun}
+use Rattle.layering.specs.Work.{born}
+use Rattle.layering.specs.Layered.{FirstNamed, Unborn, Begun}
 
-pub begun-none : (n : ℕ) (marks w : List ℕ) → Begun n marks 0 w w
-begun-none n marks w = record {
-  long = refl;
-  names = λ x l. absurd (not-suc-le-zero l);
-  births = λ c l. absurd (not-suc-le-zero l);
-  beyond = λ i l. refl;
-}
+pub first-named-none : (marks w : List ℕ) → FirstNamed marks 0 w w
+first-named-none marks w = record { long = refl; names = λ x l. absurd (not-suc-le-zero l); beyond = λ i l. refl }
 
-pub begun-more : (n q v : ℕ) (marks w₀ w : List ℕ) → q < n → 5 * n ≤ length w → v ≡ name (λ y z. eqb (at marks y) (at marks z)) q → Begun n marks q w₀ w → Begun n marks (q + 1) w₀ (set (set w (3 * n + q) 0) q v)
-begun-more n q v marks w₀ w l room e b = record {
-  long = length-set w₁ q v ∙ long₁ ∙ b .long;
+pub first-named-more : (q v : ℕ) (marks w₀ w : List ℕ) → q < length w → v ≡ name (λ y z. eqb (at marks y) (at marks z)) q → FirstNamed marks q w₀ w → FirstNamed marks (q + 1) w₀ (set w q v)
+first-named-more q v marks w₀ w room e b = record {
+  long = length-set w q v ∙ b .long;
   names = λ x m.
       elim (ℕ-discrete x q) [
-        | yes z ↦ subst (λ (y : ℕ). this (set w₁ q v) y ≡ name (λ y z. eqb (at marks y) (at marks z)) y) (sym z) (getD-set-same w₁ q v 0 (omega (arith, long₁)) ∙ e)
-        | no z ↦ getD-set-other w₁ q x v 0 z ∙ getD-set-other w (3 * n + q) x 0 0 (omega arith) ∙ b .names x (omega arith)
+        | yes z ↦ subst (λ (y : ℕ). at (set w q v) y ≡ name (λ y z. eqb (at marks y) (at marks z)) y) (sym z) (getD-set-same w q v 0 room ∙ e)
+        | no z ↦ getD-set-other w q x v 0 z ∙ b .names x (omega arith)
       ];
-  births = λ c m.
-      elim (ℕ-discrete c q) [
-        | yes z ↦ subst (λ (y : ℕ). born n (set w₁ q v) y ≡ 0) (sym z) (getD-set-other w₁ q (3 * n + q) v 0 (omega arith) ∙ getD-set-same w (3 * n + q) 0 0 (omega arith))
-        | no z ↦ getD-set-other w₁ q (3 * n + c) v 0 (omega arith) ∙ getD-set-other w (3 * n + q) (3 * n + c) 0 0 (omega arith) ∙ b .births c (omega arith)
-      ];
-  beyond = λ i m. getD-set-other w₁ q i v 0 (omega arith) ∙ getD-set-other w (3 * n + q) i 0 0 (omega arith) ∙ b .beyond i m;
+  beyond = λ i m. getD-set-other w q i v 0 (omega arith) ∙ b .beyond i (omega arith);
 }
-  where
-    w₁ : List ℕ
-    w₁ = set w (3 * n + q) 0
 
-    long₁ : length w₁ ≡ length w
-    long₁ = length-set w (3 * n + q) 0
+pub unborn-none : (n : ℕ) (w : List ℕ) → Unborn n 0 w w
+unborn-none n w = record { long = refl; births = λ x l. absurd (not-suc-le-zero l); below = λ i l. refl; beyond = λ i l. refl }
+
+pub unborn-more : (n q : ℕ) (w₀ w : List ℕ) → q < n → 3 * n + q < length w → Unborn n q w₀ w → Unborn n (q + 1) w₀ (set w (3 * n + q) 0)
+unborn-more n q w₀ w l room b = record {
+  long = length-set w (3 * n + q) 0 ∙ b .long;
+  births = λ x m.
+      elim (ℕ-discrete x q) [
+        | yes z ↦ subst (λ (y : ℕ). born n (set w (3 * n + q) 0) y ≡ 0) (sym z) (getD-set-same w (3 * n + q) 0 0 room)
+        | no z ↦ getD-set-other w (3 * n + q) (3 * n + x) 0 0 (omega arith) ∙ b .births x (omega arith)
+      ];
+  below = λ i m. getD-set-other w (3 * n + q) i 0 0 (omega arith) ∙ b .below i m;
+  beyond = λ i m. getD-set-other w (3 * n + q) i 0 0 (omega arith) ∙ b .beyond i m;
+}
+
+-- named, then born
+pub begun-born : (n : ℕ) (marks w₀ w v : List ℕ) → FirstNamed marks n w₀ w → Unborn n n w v → Begun n marks w₀ v
+begun-born n marks w₀ w v a b = record {
+  long = b .long ∙ a .long;
+  names = λ x l. b .below x (omega arith) ∙ a .names x l;
+  births = b .births;
+  beyond = λ i l. b .beyond i (omega arith) ∙ a .beyond i (omega arith);
+}
 
 -- the states of a mark
 abbrev pub has : List ℕ → ℕ → ℕ → Bool

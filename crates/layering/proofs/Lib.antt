@@ -8,3 +8,6 @@ pub mod Deepening
 pub mod Descent
 pub mod Beginning
 pub mod Starting
+pub mod Copying
+pub mod Ways
+pub mod Uniqueness

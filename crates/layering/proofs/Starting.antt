@@ -16,7 +16,7 @@ use Rattle.table.specs.Encoding.{machineIn}
 use Rattle.layering.specs.Work.{this}
 use Rattle.layering.specs.Layered.{InLayer, Settled, Begun}
 
-module _ (n k start : ℕ) (marks nexts w₀ w : List ℕ) (b : Begun n marks n w₀ w) where
+module _ (n k start : ℕ) (marks nexts w₀ w : List ℕ) (b : Begun n marks w₀ w) where
   -- by the marks, and by the first names
   abbrev M : Machine
   M = machineIn n k start marks nexts

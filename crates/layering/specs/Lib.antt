@@ -1,3 +1,4 @@
 -- Classes by layers, in lent memory.
 pub mod Work
 pub mod Layered
+pub mod Calls

@@ -5,7 +5,7 @@ ghost use lib.Dec.{eqb};
 ghost use lib.ListN.{length};
 ghost use Rattle.counting.specs.Lists.{at};
 ghost use Rattle.counting.specs.Least.{pick};
-ghost use Rattle.layering.specs.Layered.{Begun};
+ghost use Rattle.layering.specs.Layered.{FirstNamed, Unborn, Begun};
 use table::fields::mark_of;
 
 fn either_of(plain: bool, zero: usize, one: usize) -> usize
@@ -28,11 +28,11 @@ fn past(x: usize, q: usize, here: bool) -> usize
     }
 }
 
-// Names each state by the first state of its mark, and notes that these names are born in layer 0.
-pub fn first_names(marks: &[u8], work: &mut [u16], n: usize)
+// Names each state by the first state of its mark.
+pub fn mark_names(marks: &[u8], names: &mut [u16], n: usize)
     requires marked { ⌜ (length (now marks) ≡ n) × ((q : ℕ) → q < n → at (now marks) q < 2) ⌝ }
-    requires room { ⌜ (5 * n ≤ length (now work)) × (n ≤ 1024) ⌝ }
-    ensures { λ _. ⌜ Begun n (now (marks .entry)) n (now (work .entry)) (now (work .exit)) ⌝ }
+    requires room { ⌜ (n ≤ length (now names)) × (n ≤ 1024) ⌝ }
+    ensures { λ _. ⌜ FirstNamed (now (marks .entry)) n (now (names .entry)) (now (names .exit)) ⌝ }
 {
     let mut zero = 0;
     let mut one = 0;
@@ -40,11 +40,32 @@ pub fn first_names(marks: &[u8], work: &mut [u16], n: usize)
     while q < n {
         let plain = mark_of(marks, q) == 0;
         let name = either_of(plain, zero, one);
-        let birth = 3 * n + q;
-        work[birth] = 0;
-        work[q] = name as u16;
+        names[q] = name as u16;
         zero = past(zero, q, plain);
         one = past(one, q, !plain);
         q += 1;
     }
+}
+
+// Notes that all names are born in layer 0.
+fn clear_births(work: &mut [u16], n: usize)
+    requires { ⌜ (5 * n ≤ length (now work)) × (n ≤ 1024) ⌝ }
+    ensures { λ _. ⌜ Unborn n n (now (work .entry)) (now (work .exit)) ⌝ }
+{
+    let mut q = 0;
+    while q < n {
+        let birth = 3 * n + q;
+        work[birth] = 0;
+        q += 1;
+    }
+}
+
+// Names each state by the first state of its mark, and notes that these names are born in layer 0.
+pub fn first_names(marks: &[u8], work: &mut [u16], n: usize)
+    requires marked { ⌜ (length (now marks) ≡ n) × ((q : ℕ) → q < n → at (now marks) q < 2) ⌝ }
+    requires room { ⌜ (5 * n ≤ length (now work)) × (n ≤ 1024) ⌝ }
+    ensures { λ _. ⌜ Begun n (now (marks .entry)) (now (work .entry)) (now (work .exit)) ⌝ }
+{
+    mark_names(marks, work, n);
+    clear_births(work, n);
 }

@@ -1,8 +1,9 @@
-// Lent memory: numbers of two bytes read from bytes, the high byte first; lent numbers read, and cleared.
+// Lent memory: numbers of two bytes read from bytes, the high byte first; lent numbers read, and cleared; a count of numbers that pass a test.
 ghost use mathlib.Core.Path.{_≡_};
 ghost use Prim.Native.Nat.{_+_, _<_, _≤_};
 ghost use lib.ListN.{length};
 ghost use Rattle.counting.specs.Lists.{at};
+ghost use Rattle.counting.specs.Least.{pick};
 ghost use Rattle.lending.specs.Pairs.{pairAt};
 ghost use Rattle.lending.specs.Memory.{cleared};
 
@@ -34,4 +35,12 @@ pub fn clear(work: &mut [u16], m: usize)
         work[i] = 0;
         i += 1;
     }
+}
+
+// A count, with one number more that may pass.
+pub fn counted(count: usize, more: bool) -> usize
+    requires { ⌜ count < 65536 ⌝ }
+    ensures { λ r. ⌜ r ≡ count + pick more 1 0 ⌝ }
+{
+    if more { count + 1 } else { count }
 }

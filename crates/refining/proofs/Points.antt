@@ -100,7 +100,7 @@ module _ (M : Machine) (lawful : Lawful M) (s : Split) (formed : WellFormed (M .
   abbrev goer : ℕ → ℕ → Bool
   goer p y = eqb (classOf s y) p && goes M s y
 
-  class-at : (x : ℕ) → x < M .size → classOf (take M s) x ≡ pick (goes M s x) (least (M .size) (goer (classOf s x))) (classOf s x)
+  pub class-at : (x : ℕ) → x < M .size → classOf (take M s) x ≡ pick (goes M s x) (least (M .size) (goer (classOf s x))) (classOf s x)
   unfolding take takeBy splitClass
   class-at x l =
       tab-at (M .size) _ 0 x l

@@ -1,5 +1,5 @@
 -- Runs from any well-formed lists: budgets add up, the account of takes, and an end within n × k takes.
-use mathlib.Core.Path.{_≡_, refl, sym, ap, _∙_}
+use mathlib.Core.Path.{_≡_, refl, sym, ap, subst, _∙_}
 use mathlib.Core.Bool.{Bool, true, false, not, true≢false}
 use mathlib.Core.List.{List, [], _∷_}
 use Prim.Native.Nat.{ℕ, zero, suc, _+_, _*_, _≤_, _<_}
@@ -8,15 +8,18 @@ use native.Mathlib.Omega.{arith}
 use native.Mathlib.Decide.{ℕ-discrete}
 use borrow.Author.Tests.{eq-eqb, ne-eqb, eqb-false, not-true}
 use lib.Dec.{eqb}
+use lib.ListN.{length}
 use Rattle.counting.specs.Lists.{at}
 use Rattle.counting.specs.Least.{pick}
 use Rattle.counting.specs.Sums.{sum}
+use Rattle.counting.proofs.Cases.{by-test}
+use Rattle.counting.proofs.Tabs.{tab-length}
 use Rattle.counting.proofs.Tallies.{any-iff, count-most}
 use Rattle.counting.proofs.Sums.{sum-mono, sum-scale, term-le, count-sum}
 use Rattle.automaton.specs.Machine.{Machine, Lawful}
 use Rattle.automaton.specs.Layers.{classCount}
 use Rattle.refining.specs.Lists.{Split, WellFormed, waiting}
-use Rattle.refining.specs.Take.{take, entries}
+use Rattle.refining.specs.Take.{splitClass, splitPending, takeBy, take, entries}
 use Rattle.refining.specs.Run.{step, stepTakes, stepEntries, runLists, runTakes, runEntries, allLists, allTakes, allEntries, total}
 use Rattle.refining.proofs.Keeping.{take-keeps}
 use Rattle.refining.proofs.Balance.{take-balance}
@@ -66,6 +69,32 @@ pub run-idle : (M : Machine) (b : ℕ) (s : Split) → waiting (M .size) s ≡ f
 unfolding runLists
 run-idle M zero s e = refl
 run-idle M (suc b) s e = ap (runLists M b) (step-idle M s e .0) ∙ run-idle M b s e
+
+pub idle-takes : (M : Machine) (b : ℕ) (s : Split) → waiting (M .size) s ≡ false → runTakes M b s ≡ 0
+unfolding runTakes
+idle-takes M zero s e = refl
+idle-takes M (suc b) s e = omega (arith, step-idle M s e .1, ap (runTakes M b) (step-idle M s e .0), idle-takes M b s e)
+
+pub idle-entries : (M : Machine) (b : ℕ) (s : Split) → waiting (M .size) s ≡ false → runEntries M b s ≡ 0
+unfolding runEntries
+idle-entries M zero s e = refl
+idle-entries M (suc b) s e = omega (arith, step-idle M s e .2, ap (runEntries M b) (step-idle M s e .0), idle-entries M b s e)
+
+-- the lists of one number for each state
+abbrev pub Long : ℕ → Split → Type 0
+Long n s = (length (s .class) ≡ n) × (length (s .pending) ≡ n)
+
+pub take-long : (M : Machine) (s : Split) → Long (M .size) (take M s)
+unfolding take takeBy splitClass splitPending
+take-long M s = (tab-length (M .size) _, tab-length (M .size) _)
+
+pub run-long : (M : Machine) (b : ℕ) (s : Split) → Long (M .size) s → Long (M .size) (runLists M b s)
+unfolding runLists
+run-long M zero s h = h
+run-long M (suc b) s h =
+    run-long M b (step M s) (by-test (waiting (M .size) s)
+    (λ e. subst (Long (M .size)) (sym (step-takes M s e .0)) (take-long M s))
+    (λ e. subst (Long (M .size)) (sym (step-idle M s e .0)) h))
 
 -- a run makes no more takes than its budget has
 pub takes-most : (M : Machine) (b : ℕ) (s : Split) → runTakes M b s ≤ b

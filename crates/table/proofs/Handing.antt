@@ -1,10 +1,12 @@
 -- What the bodies handed out of an accepted file hold: next states that are states, and the machine of the file.
 use mathlib.Core.Path.{_≡_, sym, subst}
 use mathlib.Core.List.{List}
-use Prim.Native.Nat.{ℕ, _+_, _*_, _<_}
+use Prim.Native.Nat.{ℕ, _+_, _*_, _≤_, _<_}
 use native.Mathlib.Nat.{le-of-eq}
+use native.Mathlib.Omega.{arith}
 use denote.Ref.{RefT, now}
 use lib.ListN.{length}
+use Rattle.counting.specs.Lists.{at}
 use Rattle.counting.specs.Least.{pick}
 use Rattle.automaton.specs.Machine.{Machine, Lawful}
 use Rattle.table.specs.declared.answer.Sizes.{Sizes}
@@ -49,3 +51,8 @@ module _ (file : List ℕ) (z : Sizes) (g : Good file z) where
 
   pub marks-long : length (marksIn file z) ≡ z .states
   marks-long = part-length file 12 (z .states) (rw (g .states) (g .right .fields .marks .whole .bodied))
+
+  pub marks-small : (q : ℕ) → q < z .states → at (marksIn file z) q < 2
+  marks-small q l =
+      let m : machineIn (z .states) (z .signs) (z .start) (marksIn file z) (nextsIn file z) .kind q ≤ 1 = subst (λ (M : Machine). q < M .size → M .kind q ≤ 1) (sym machine-is) (machine-in-range file (g .right) .marks q) l in
+      omega arith

@@ -13,3 +13,4 @@ pub mod Readers
 pub mod Pieces
 pub mod Encodings
 pub mod Handing
+pub mod Leavings

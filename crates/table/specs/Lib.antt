@@ -5,3 +5,4 @@ pub mod Rows
 pub mod Bodies
 pub mod Encoding
 pub mod Accepted
+pub mod Leaving

@@ -1,120 +1,26 @@
--- `layering::first::first_names` meets its contract. The loop's invariant: the first q states are named, and zero and one are the first states of each mark among them.
+-- `layering::first::first_names` meets its contract: the names, then their births.
 -- Assumes nothing.
-use borrow.Author.Needs.{needs}
-use native.Mathlib.Omega.{arith}
-use Prim.Native.Nat.{ℕ, _+_, _*_, _≤_, _-_}
-use mathlib.Core.Path.{_≡_, sym, ap, subst, _∙_}
-use mathlib.Core.Bool.{not}
-use lib.Dec.{eqb}
-use lib.ListN.{length-set}
-use Rattle.counting.specs.Lists.{at}
-use Rattle.counting.specs.Least.{pick}
 use denote.Ref.{now}
-use Rattle.counting.proofs.Leasts.{IsLeast}
-use Rattle.layering.specs.Layered.{Begun}
-use Rattle.layering.proofs.Beginning.{has, begun-none, begun-more, past-least, first-name, nothing-least, either-small, other-mark}
+use borrow.Author.Needs.{needs}
+use Rattle.layering.proofs.Beginning.{begun-born}
 use Rattle.layering.proofs.first.first_names.Statement.{statement}
 use Rattle.layering.proofs.first.first_names.Tie as tie
 
-abbrev Inv-loop : tie.InvT-loop
-Inv-loop marks work₀ n zero₀ one₀ q₀ work zero one q =
-    (q ≤ n) × Begun n marks q work₀ work × IsLeast q (has marks 0) zero × IsLeast q (has marks 1) one
+mark-names-requires : tie.Need-mark-names-requires
+mark-names-requires c κs = search needs
 
-abbrev μ-loop : tie.MeasureT-loop
-μ-loop marks work₀ n zero₀ one₀ q₀ work zero one q = n - q
+clear-births-requires : tie.Need-clear-births-requires
+clear-births-requires c κs = search needs
 
-loop-holds : tie.Need-loop-holds Inv-loop μ-loop
-loop-holds c = (omega arith, begun-none _ _ _, nothing-least (now (c .before .before .args .marks)) 0, nothing-least (now (c .before .before .args .marks)) 1)
+same-length : tie.Need-same-length
+same-length c = search needs
 
-mark-of-requires : tie.Need-mark-of-requires Inv-loop μ-loop
-mark-of-requires c κs = omega (arith, c .loop-test .taken, c .before .before .before .before .pre .0 .0)
-
-either-of-requires : tie.Need-either-of-requires Inv-loop μ-loop
-either-of-requires c κs = search needs
-
-mul-birth : tie.Need-mul-birth Inv-loop μ-loop
-mul-birth c = omega (arith, c .before .before .before .before .before .before .pre .1 .1)
-
-add-birth : tie.Need-add-birth Inv-loop μ-loop
-add-birth c = omega (arith, c .before .before .before .before .before .before .pre .1 .1, c .before .before .loop-test .taken)
-
-mul-work : tie.Need-mul-work Inv-loop μ-loop
-mul-work c = omega (arith, c .before .before .before .before .before .before .pre .1 .1, c .before .before .loop-test .taken)
-
-slice-write-work : tie.Need-slice-write-work Inv-loop μ-loop
-slice-write-work c = omega (arith, c .before .before .before .before .before .before .pre .1 .0, c .before .before .before .loop .inv .1 .long, c .before .before .loop-test .taken)
-
-cast-work : tie.Need-cast-work Inv-loop μ-loop
-cast-work c =
-    let l = c .before .before .before .loop in
-    let s = either-small (eqb (c .before .mark-of .result) 0) (l .q) (l .zero) (l .one) (l .inv .2 .within) (l .inv .3 .within) in
-    omega (arith, c .either-of .ensures, s, c .before .before .loop-test .taken, c .before .before .before .before .before .before .pre .1 .1)
-
-mul-work-2 : tie.Need-mul-work-2 Inv-loop μ-loop
-mul-work-2 c = omega (arith, c .before .before .before .before .before .before .pre .1 .1, c .before .before .loop-test .taken)
-
-slice-write-work-2 : tie.Need-slice-write-work-2 Inv-loop μ-loop
-slice-write-work-2 c = omega (arith, c .before .before .before .before .before .before .pre .1 .0, c .before .before .before .loop .inv .1 .long, c .before .before .loop-test .taken, length-set (c .before .before .before .loop .work) (3 * c .before .before .before .before .before .before .args .n + c .before .before .before .loop .q) 0)
-
-past-requires : tie.Need-past-requires Inv-loop μ-loop
-past-requires c κs = omega (arith, c .before .before .before .before .before .before .pre .1 .1, c .before .before .loop-test .taken)
-
-past-requires-2 : tie.Need-past-requires-2 Inv-loop μ-loop
-past-requires-2 c κs = omega (arith, c .before .before .before .before .before .before .before .pre .1 .1, c .before .before .before .loop-test .taken)
-
-add-q : tie.Need-add-q Inv-loop μ-loop
-add-q c = omega (arith, c .before .before .before .before .before .before .before .before .pre .1 .1, c .before .before .before .before .loop-test .taken)
-
-loop-less : tie.Need-loop-less Inv-loop μ-loop
-loop-less c = omega (arith, c .before .before .before .before .loop-test .taken)
-
-loop-again : tie.Need-loop-again Inv-loop μ-loop
-loop-again c =
-    let b = c .before .before .before .before .before .before .before .before in
-    let l = c .before .before .before .before .before .loop in
-    let t = c .before .before .before .before .loop-test .taken in
-    let marks = now (b .args .marks) in
-    let m = c .before .before .before .mark-of in
-    let two = b .pre .0 .1 (l .q) t in (
-      omega (arith, t),
-      begun-more (b .args .n) (l .q) (c .before .before .either-of .result) marks (now (b .args .work)) (l .work) t (omega (arith, l .inv .1 .long, b .pre .1 .0))
-          (c .before .before .either-of .ensures ∙ ap (λ (x : ℕ). pick (eqb x 0) (l .zero) (l .one)) (m .ensures) ∙ first-name (l .q) (l .zero) (l .one) marks two (l .inv .2) (l .inv .3)) (l .inv .1),
-      subst (λ (x : ℕ). IsLeast (l .q + 1) (has marks 0) x) (sym (c .before .past .ensures))
-          (past-least (l .q) 0 (l .zero) marks (eqb (m .result) 0) (ap (λ (x : ℕ). eqb x 0) (sym (m .ensures))) (l .inv .2)),
-      subst (λ (x : ℕ). IsLeast (l .q + 1) (has marks 1) x) (sym (c .past2 .ensures))
-          (past-least (l .q) 1 (l .one) marks (not (eqb (m .result) 0)) (other-mark (at marks (l .q)) two ∙ ap (λ (x : ℕ). not (eqb x 0)) (sym (m .ensures))) (l .inv .3)),
-    )
-
-same-length : tie.Need-same-length Inv-loop μ-loop
-same-length c = c .before .loop .inv .1 .long
-
-returns : tie.Need-returns Inv-loop μ-loop
+returns : tie.Need-returns
 returns c =
-    let b = c .before .before .before .before in
-    let l = c .before .loop in
-    let e : l .q ≡ b .args .n = omega arith in
-    subst (λ (q : ℕ). Begun (b .args .n) (now (b .args .marks)) q (now (b .args .work)) (l .work)) e (l .inv .1)
+    let a = c .before .before .before .before .before .before .before .before .before .before .args in
+    let m = c .before .before .before .before .before .before .mark-names in
+    let k = c .before .before .clear-births in
+    begun-born (a .n) (now (a .marks)) (now (a .work)) (m .last .1 .0) (k .last .0) (m .ensures) (k .ensures)
 
 pub first-names-spec : {M : Type 1} → statement M
-first-names-spec =
-    tie.close
-    (tie.spec
-    Inv-loop
-    μ-loop
-    loop-holds
-    mark-of-requires
-    either-of-requires
-    mul-birth
-    add-birth
-    mul-work
-    slice-write-work
-    cast-work
-    mul-work-2
-    slice-write-work-2
-    past-requires
-    past-requires-2
-    add-q
-    loop-less
-    loop-again
-    same-length
-    returns)
+first-names-spec = tie.close (tie.spec mark-names-requires clear-births-requires same-length returns)

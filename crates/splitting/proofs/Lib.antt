@@ -1,0 +1,21 @@
+-- Laws of the splitting in lent memory.
+pub mod Columns
+pub mod Unleading
+pub mod Divisions
+pub mod Dueness
+pub mod Quietness
+pub mod Balances
+pub mod Adopting
+pub mod Anew
+pub mod Parting
+pub mod Sharing
+pub mod Goers
+pub mod Renaming
+pub mod Forming
+pub mod Sizing
+pub mod Progress
+pub mod RunWays
+pub mod RunUniqueness
+pub mod Pendings
+pub mod StartWays
+pub mod StartUniqueness

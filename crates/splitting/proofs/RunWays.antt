@@ -1,0 +1,168 @@
+-- The ways out of the run of takes, each with its facts. Rests on the run not looking at the marks.
+use mathlib.Core.Path.{_≡_, refl, sym, ap, ap₂, _∙_}
+use mathlib.Core.Logic.{_⊎_, ⊎-elim}
+use mathlib.Core.Bool.{Bool, true, false, not, _||_, or-true}
+use mathlib.Core.List.{List, [], _∷_}
+use Prim.Native.Nat.{ℕ, zero, suc, _+_, _*_, _≤_, _<_}
+use native.Mathlib.Decide.{decLt}
+use native.Mathlib.Omega.{arith}
+use borrow.Author.Tests.{lt-ltb, le-ltb}
+use lib.Dec.{ltb}
+use lib.ListN.{length}
+use lib.Seq.{length-take-le}
+use Rattle.counting.specs.Lists.{at}
+use Rattle.counting.specs.Least.{pick}
+use Rattle.counting.proofs.Leasts.{least-is}
+use Rattle.automaton.specs.Machine.{Machine}
+use Rattle.refining.specs.Lists.{Split, WellFormed, formed, illFormed}
+use Rattle.refining.specs.Take.{hits, takeBy, dueHits, take as takeOf, entries}
+use Rattle.refining.specs.Run.{step, stepTakes, stepEntries, runLists, runTakes, runEntries}
+use Rattle.refining.proofs.Keeping.{formed-iff}
+use Rattle.refining.proofs.Runs.{run-long}
+use Rattle.lending.specs.Memory.{cleared, written}
+use Rattle.lending.proofs.Memories.{cleared-same, written-is}
+use Rattle.table.specs.Answers.{gives, refuses}
+use Rattle.table.specs.Judging.{judged}
+use Rattle.table.specs.Leaving.{left}
+use Rattle.table.specs.Encoding.{machineIn}
+use Rattle.table.specs.Accepted.{Good}
+use Rattle.table.specs.declared.answer.Sizes.{Sizes}
+use Rattle.table.proofs.Leavings.{file-refused, file-given, refuses-here, refuses-not}
+use Rattle.table.proofs.Openings.{good-given}
+use Rattle.table.proofs.Handing.{marksIn, nextsIn, machine-is}
+use Rattle.splitting.specs.Work.{lists}
+use Rattle.splitting.specs.Running.{RanBy}
+use Rattle.splitting.specs.RunCall.{allowed, ranFrom, runOf, runLeaves}
+
+pub run-refused : (file : List ℕ) (budget : ℕ) (class pending work : List ℕ) {number place : ℕ} → judged file ≡ refuses number place
+    → left (refuses number place) (class ∷ pending ∷ work ∷ []) ≡ runLeaves file budget class pending work
+unfolding runLeaves
+run-refused file budget class pending work e = sym (file-refused file (class ∷ pending ∷ work ∷ []) _ e)
+
+-- a run doesn't look at the marks
+module _ (n k start : ℕ) (marks nexts : List ℕ) where
+  abbrev marked : Machine
+  marked = machineIn n k start marks nexts
+
+  abbrev bare : Machine
+  bare = machineIn n k start [] nexts
+
+  step-bare : (s : Split) → (step bare s ≡ step marked s) × (stepTakes bare s ≡ stepTakes marked s) × (stepEntries bare s ≡ stepEntries marked s)
+  unfolding step stepTakes stepEntries takeOf takeBy entries dueHits hits
+  step-bare s = (refl, refl, refl)
+
+  lists-bare : (b : ℕ) (s : Split) → runLists bare b s ≡ runLists marked b s
+  unfolding runLists
+  lists-bare zero s = refl
+  lists-bare (suc b) s = lists-bare b (step bare s) ∙ ap (runLists marked b) (step-bare s .0)
+
+  takes-bare : (b : ℕ) (s : Split) → runTakes bare b s ≡ runTakes marked b s
+  unfolding runTakes
+  takes-bare zero s = refl
+  takes-bare (suc b) s = ap₂ _+_ (step-bare s .1) (takes-bare b (step bare s) ∙ ap (runTakes marked b) (step-bare s .0))
+
+  entries-bare : (b : ℕ) (s : Split) → runEntries bare b s ≡ runEntries marked b s
+  unfolding runEntries
+  entries-bare zero s = refl
+  entries-bare (suc b) s = ap₂ _+_ (step-bare s .2) (entries-bare b (step bare s) ∙ ap (runEntries marked b) (step-bare s .0))
+
+  -- what the takes leave in the slices
+  module _ (budget : ℕ) (class pending class′ pending′ work ready ran : List ℕ) (takes looked : ℕ)
+      (class-room : n ≤ length class) (pending-room : n ≤ length pending)
+      (r : RanBy bare budget class pending class′ pending′ ready ran takes looked)
+      (long : length ready ≡ length work) (beyond : (i : ℕ) → 6 * n ≤ i → at ready i ≡ at work i) where
+    abbrev s : Split
+    s = lists n class pending
+
+    reached : (length (runLists bare budget s .class) ≡ n) × (length (runLists bare budget s .pending) ≡ n)
+    reached = run-long bare budget s (length-take-le n class class-room, length-take-le n pending pending-room)
+
+    class-left : class′ ≡ written (runLists bare budget s .class) class
+    class-left =
+        let e : length (runLists bare budget s .class) ≡ n = reached .0 in
+        written-is (runLists bare budget s .class) class class′ (r .classes-long) (omega arith) (λ j l. r .classes j (omega arith)) (λ j l. r .classes-beyond j (omega arith))
+
+    pending-left : pending′ ≡ written (runLists bare budget s .pending) pending
+    pending-left =
+        let e : length (runLists bare budget s .pending) ≡ n = reached .1 in
+        written-is (runLists bare budget s .pending) pending pending′ (r .pendings-long) (omega arith) (λ j l. r .pendings j (omega arith)) (λ j l. r .pendings-beyond j (omega arith))
+
+    work-left : cleared (16 * n) ran ≡ cleared (16 * n) work
+    work-left = cleared-same (16 * n) ran work (r .work-long ∙ long) (λ j l. r .work-beyond j (omega arith) ∙ beyond j (omega arith))
+
+    ran-left : left (gives (takes ∷ looked ∷ [])) (class′ ∷ pending′ ∷ cleared (16 * n) ran ∷ []) ≡ ranFrom marked budget s class pending work
+    unfolding ranFrom
+    ran-left =
+        ap₂ left
+        (ap₂ (λ (t e : ℕ). gives (t ∷ e ∷ [])) (r .counts .0 ∙ takes-bare budget s) (r .counts .1 ∙ entries-bare budget s))
+        (ap₂ (λ (cs ps : List ℕ). cs ∷ ps ∷ cleared (16 * n) ran ∷ []) (class-left ∙ ap (λ (t : Split). written (t .class) class) (lists-bare budget s)) (pending-left ∙ ap (λ (t : Split). written (t .pending) pending) (lists-bare budget s))
+        ∙ ap (λ (w : List ℕ). written (runLists marked budget s .class) class ∷ written (runLists marked budget s .pending) pending ∷ w ∷ []) work-left)
+
+pub allowed-most : (budget : ℕ) → allowed budget ≤ 65535
+unfolding allowed pick
+allowed-most budget = elim (decLt 65535 budget) [
+  | yes l ↦ rw (lt-ltb 65535 budget l) (omega arith)
+  | no u ↦ rw (le-ltb 65535 budget (omega arith)) (omega arith)
+]
+
+-- lists with no state where a rule fails are well formed
+pub well-formed : (n k : ℕ) (s : Split) → n ≤ illFormed n k s → WellFormed n k s
+unfolding illFormed
+well-formed n k s l = formed-iff n k s .0 (omega (arith, least-is n (λ q. not (formed k s q)) .within))
+
+module _ (file : List ℕ) (z : Sizes) (g : Good file z) (budget : ℕ) (class pending work : List ℕ) where
+  abbrev handed : Machine
+  handed = machineIn (z .states) (z .signs) (z .start) (marksIn file z) (nextsIn file z)
+
+  given : runLeaves file budget class pending work ≡ runOf handed budget class pending work
+  unfolding runLeaves
+  given = file-given file (class ∷ pending ∷ work ∷ []) _ (good-given g) ∙ ap (λ (M : Machine). runOf M budget class pending work) (sym (machine-is file z g))
+
+  pub run-narrow : length work < 16 * z .states → left (refuses 11 (16 * z .states)) (class ∷ pending ∷ work ∷ []) ≡ runLeaves file budget class pending work
+  unfolding runOf
+  run-narrow l = sym (given ∙ refuses-here 11 (16 * z .states) (class ∷ pending ∷ work ∷ []) _ (lt-ltb (length work) (16 * z .states) l))
+
+  module _ (room : 16 * z .states ≤ length work) where
+    pub run-short : (length class < z .states) ⊎ (length pending < z .states)
+        → left (refuses 12 (z .states)) (class ∷ pending ∷ cleared (16 * z .states) work ∷ []) ≡ runLeaves file budget class pending work
+    unfolding runOf
+    run-short h =
+        sym
+        (given
+        ∙ refuses-not 11 (16 * z .states) (class ∷ pending ∷ work ∷ []) _ (le-ltb (length work) (16 * z .states) room)
+        ∙ refuses-here 12 (z .states) (class ∷ pending ∷ cleared (16 * z .states) work ∷ []) _ (short h))
+      where
+        short : (length class < z .states) ⊎ (length pending < z .states) → (ltb (length class) (z .states) || ltb (length pending) (z .states)) ≡ true
+        short =
+            ⊎-elim
+            (λ l. ap (λ (t : Bool). t || ltb (length pending) (z .states)) (lt-ltb (length class) (z .states) l))
+            (λ l. ap (λ (t : Bool). ltb (length class) (z .states) || t) (lt-ltb (length pending) (z .states) l) ∙ or-true (ltb (length class) (z .states)))
+
+    module _ (class-room : z .states ≤ length class) (pending-room : z .states ≤ length pending) where
+      wide : (ltb (length class) (z .states) || ltb (length pending) (z .states)) ≡ false
+      wide = ap₂ _||_ (le-ltb (length class) (z .states) class-room) (le-ltb (length pending) (z .states) pending-room)
+
+      pub run-ill : (ill : ℕ) → ill ≡ illFormed (z .states) (z .signs) (lists (z .states) class pending) → ill < z .states
+          → left (refuses 13 ill) (class ∷ pending ∷ work ∷ []) ≡ runLeaves file budget class pending work
+      unfolding runOf
+      run-ill ill e l =
+          ap (λ (i : ℕ). left (refuses 13 i) (class ∷ pending ∷ work ∷ [])) e
+          ∙ sym
+          (given
+          ∙ refuses-not 11 (16 * z .states) (class ∷ pending ∷ work ∷ []) _ (le-ltb (length work) (16 * z .states) room)
+          ∙ refuses-not 12 (z .states) (class ∷ pending ∷ cleared (16 * z .states) work ∷ []) _ wide
+          ∙ refuses-here 13 (illFormed (z .states) (z .signs) (lists (z .states) class pending)) (class ∷ pending ∷ work ∷ []) _ (lt-ltb _ (z .states) (omega arith)))
+
+      pub run-made : z .states ≤ illFormed (z .states) (z .signs) (lists (z .states) class pending) → (class′ pending′ ready ran : List ℕ) (takes looked : ℕ)
+          → RanBy (machineIn (z .states) (z .signs) (z .start) [] (nextsIn file z)) (allowed budget) class pending class′ pending′ ready ran takes looked
+          → length ready ≡ length work
+          → ((i : ℕ) → 6 * z .states ≤ i → at ready i ≡ at work i)
+          → left (gives (takes ∷ looked ∷ [])) (class′ ∷ pending′ ∷ cleared (16 * z .states) ran ∷ []) ≡ runLeaves file budget class pending work
+      unfolding runOf
+      run-made l class′ pending′ ready ran takes looked r long beyond =
+          ran-left (z .states) (z .signs) (z .start) (marksIn file z) (nextsIn file z) (allowed budget) class pending class′ pending′ work ready ran takes looked class-room pending-room r long beyond
+          ∙ sym
+          (given
+          ∙ refuses-not 11 (16 * z .states) (class ∷ pending ∷ work ∷ []) _ (le-ltb (length work) (16 * z .states) room)
+          ∙ refuses-not 12 (z .states) (class ∷ pending ∷ cleared (16 * z .states) work ∷ []) _ wide
+          ∙ refuses-not 13 (illFormed (z .states) (z .signs) (lists (z .states) class pending)) (class ∷ pending ∷ work ∷ []) _ (le-ltb _ (z .states) l))
