@@ -18,8 +18,9 @@
  *   10  an asked state is n or more: 0 for the first, else 1; a sign of a lent word is k or more: the index of the first such
  *   11  the work slice has fewer than 16 x n numbers: 16 x n
  *   12  a lent result is shorter than the result: the length needed
+ *   13  a class or pending list isn't well formed: the least state where it fails
  *
- * Memory. On 1 to 11 all lent memory stays as it was. On 12 the first 16 x n numbers of the work slice are 0, and nothing else
+ * Memory. On 1 to 11 and 13 all lent memory stays as it was. On 12 the first 16 x n numbers of the work slice are 0, and nothing else
  * changes. They are 0 after an accepted call too; beyond them, and beyond the end of a result, nothing changes. What lent memory
  * held before the call changes no answer.
  */
@@ -99,6 +100,33 @@ typedef struct {
  * the word's length. */
 wyl_told wyl_tell(const uint8_t *file, size_t length, size_t first, size_t second, uint16_t *work, size_t work_length,
                   uint8_t *word, size_t word_length);
+
+/* number 0: the lists are fresh. Any other number is that of the refusal. */
+typedef struct {
+    size_t number;
+    size_t place;
+} wyl_started;
+
+/* The fresh lists of a splitting, at the front of classes and pending: the classes by marks; where both marks occur the accepting
+ * class waits with all signs when it isn't larger than the other, else the other does. Judges the whole file. Refuses with 1 to
+ * 8, then 12 at n. */
+wyl_started wyl_fresh(const uint8_t *file, size_t length, uint16_t *classes, size_t classes_length, uint16_t *pending,
+                      size_t pending_length);
+
+/* number 0: takes made and entries looked at in this call. Any other number is that of the refusal, and the rest is 0. */
+typedef struct {
+    size_t number;
+    size_t place;
+    size_t takes;
+    size_t entries;
+} wyl_taken;
+
+/* Takes on the two lists until the budget is used or nothing waits; a budget above 65,535 counts as 65,535. The lists may come
+ * from anywhere: the first n numbers of each must be well formed, that is classes[q] <= q, classes[classes[q]] = classes[q],
+ * pending[q] <= k, and pending[q] = 0 unless classes[q] = q. Judges the whole file. Refuses with 1 to 8, then 11 (work), then 12
+ * at n, then 13. */
+wyl_taken wyl_run(const uint8_t *file, size_t length, size_t budget, uint16_t *classes, size_t classes_length, uint16_t *pending,
+                  size_t pending_length, uint16_t *work, size_t work_length);
 
 #ifdef __cplusplus
 }

@@ -15,7 +15,7 @@ use Rattle.automaton.specs.Machine.{Machine, Lawful, Agree}
 use Rattle.automaton.specs.Words.{Word, steps, Same, Equivalent, Reached}
 use Rattle.automaton.specs.Layers.{classes}
 use Rattle.automaton.specs.Quotient.{rows, quotient, Connected, Collapsed, Isomorphic}
-use Rattle.automaton.proofs.Walks.{steps-append, word-append, steps-in}
+use Rattle.automaton.proofs.Walks.{steps-append, word-append, steps-in, agree-sym, agree-reached, agree-same}
 use Rattle.automaton.proofs.Rowlists.{rows-of, rows-all, classes-collapsed}
 use Rattle.automaton.proofs.Quotients.{quotient-lawful, quotient-equivalent, quotient-connected, quotient-collapsed}
 
@@ -170,6 +170,12 @@ module _ (M : Machine) (lawful : Lawful M) where
   -- (h)
   pub quotient-again : Agree (quotient (quotient M)) (quotient M)
   quotient-again = own-quotient Q lawful-quotient connected collapsed
+
+  -- (h) of a machine that agrees with the quotient
+  pub agreed-again : (N : Machine) → Lawful N → Agree N (quotient M) → Agree (quotient N) N
+  agreed-again N l a =
+      own-quotient N l (λ q h. agree-reached Q N lawful-quotient (agree-sym a) q (connected q (omega (arith, a .size))))
+      (λ p q h k s. collapsed p q (omega (arith, a .size)) (omega (arith, a .size)) (agree-same N Q l a p q h k s))
 
 -- (i) of the quotients
 pub quotients-one : (M N : Machine) → Lawful M → Lawful N → Equivalent M N → Isomorphic (quotient M) (quotient N)

@@ -7,14 +7,14 @@ use native.Mathlib.Nat.{add-zero}
 use native.Mathlib.Numerals.{add-one}
 use native.Mathlib.Omega.{arith}
 use native.Mathlib.Decide.{ℕ-discrete, decLt}
-use borrow.Author.Tests.{eqb-true, eqb-false}
+use borrow.Author.Tests.{eq-eqb, ne-eqb, eqb-true, eqb-false}
 use lib.Dec.{eqb}
 use lib.ListN.{length, length-append, List·getD-append}
 use lib.Seq.{getD-append-seam}
 use Rattle.counting.specs.Lists.{at, tab}
 use Rattle.counting.specs.Least.{pick}
 use Rattle.counting.specs.Counts.{those, place, count}
-use Rattle.counting.proofs.Leasts.{IsLeast, least-is}
+use Rattle.counting.proofs.Leasts.{IsLeast, least-is, least-first}
 use Rattle.counting.proofs.Tabs.{tab-add}
 
 -- a list is the numbers below n that pass, rising
@@ -99,3 +99,21 @@ place-here xs i l = elim (decLt (place xs (at xs i)) (length xs)) [
   where
     r : IsLeast (length xs) (λ j. eqb (at xs j) (at xs i)) (place xs (at xs i))
     r = least-is _ _
+
+-- a number that stands in a list has its place there, whatever follows
+pub place-front : (xs ys : List ℕ) (c i : ℕ) → i < length xs → at xs i ≡ c → place (xs ++ ys) c ≡ place xs c
+unfolding place
+place-front xs ys c i l e =
+    let f : at xs (place xs c) ≡ c = rw e at (place-here xs i l .1) in
+    let m : place xs c < length xs = rw e at (place-here xs i l .0) in
+    least-first (length (xs ++ ys)) _ (place xs c) (omega (arith, length-append xs ys))
+    (eq-eqb _ c (List·getD-append xs ys 0 (place xs c) m ∙ f))
+    (λ j k. rw (List·getD-append xs ys 0 j (omega arith)) (least-is (length xs) (λ j. eqb (at xs j) c) .before j k))
+
+-- a number that does not stand there is placed at the end
+pub place-last : (xs : List ℕ) (c : ℕ) → ((i : ℕ) → i < length xs → at xs i ≡ c → ⊥) → place (xs ++ (c ∷ [])) c ≡ length xs
+unfolding place
+place-last xs c h =
+    least-first (length (xs ++ (c ∷ []))) _ (length xs) (omega (arith, length-append xs (c ∷ [])))
+    (eq-eqb _ c (getD-append-seam xs c [] 0))
+    (λ j k. rw (List·getD-append xs (c ∷ []) 0 j k) (ne-eqb (at xs j) c (h j k)))

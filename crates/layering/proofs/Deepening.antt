@@ -20,7 +20,7 @@ use Rattle.automaton.proofs.Lineage.{layers-coarser, newborn}
 use Rattle.layering.specs.Work.{later, born, from, Rounded, Moved}
 use Rattle.layering.specs.Layered.{InLayer}
 
-module _ (M : Machine) (lawful : Lawful M) (w v : List ℕ) (i : ℕ) (t : Bool) (room : 5 * M .size ≤ length w) (h : InLayer M i w) (r : Rounded M w v (suc i) (M .size) t) where
+module _ (M : Machine) (lawful : Lawful M) (w v : List ℕ) (i : ℕ) (t : Bool) (room : 6 * M .size ≤ length w) (h : InLayer M i w) (r : Rounded M w v (suc i) (M .size) t) where
   abbrev n : ℕ
   n = M .size
 

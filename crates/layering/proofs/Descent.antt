@@ -1,9 +1,9 @@
 -- The rounds one after the other, over the machine whose kinds are the first names.
-use mathlib.Core.Path.{_≡_, sym, subst, _∙_}
+use mathlib.Core.Path.{_≡_, refl, sym, ap, subst, _∙_}
 use mathlib.Core.Bool.{Bool, true, not}
 use borrow.Author.Tests.{not-true}
 use mathlib.Core.List.{List, []}
-use Prim.Native.Nat.{ℕ, suc, _+_, _*_, _≤_, _<_}
+use Prim.Native.Nat.{ℕ, suc, _+_, _*_, _/_, _%_, _≤_, _<_}
 use native.Mathlib.Numerals.{add-one}
 use native.Mathlib.Omega.{arith}
 use lib.ListN.{length}
@@ -14,8 +14,9 @@ use Rattle.automaton.proofs.Alikes.{layer-le, layer-name}
 use Rattle.automaton.proofs.Settling.{rounds-kinds}
 use Rattle.table.specs.Encoding.{machineIn, Held}
 use Rattle.table.proofs.Handing.{held-lawful}
-use Rattle.layering.specs.Work.{Named, Rounded, Moved}
+use Rattle.layering.specs.Work.{link, head, bucket, Named, Rounded, Moved}
 use Rattle.layering.specs.Layered.{InLayer, Settled}
+use Rattle.layering.proofs.Buckets.{mixed-same}
 use Rattle.layering.proofs.Deepening.{quiet-settled, busy-unsettled, stays, deeper}
 
 -- a layer's names are names
@@ -31,13 +32,23 @@ module _ (n k start : ℕ) (marks nexts : List ℕ) (held : Held n k start nexts
   abbrev M : Machine
   M = machineIn n k start marks nexts
 
-  -- a round does not look at the kinds
+  -- a bucket, and so a round, does not look at the kinds
+  bucket-kinds : (v : List ℕ) (s : ℕ) → bucket M v s ≡ bucket (machineIn n k start [] nexts) v s
+  unfolding bucket
+  bucket-kinds v s = ap (λ (m : ℕ). m / 65536 % n) (mixed-same M (machineIn n k start [] nexts) v v s s k refl (λ a b. refl) k (omega arith))
+
   with-kinds : (v : List ℕ) (t : Bool) → Rounded (machineIn n k start [] nexts) w v (i + 1) n t → Rounded M w v (suc i) n t
   unfolding alikeNext
   with-kinds v t r = record {
     long = r .long;
     same = r .same;
-    done = record { right = r .done .right; ends = r .done .ends; leads = r .done .leads; skips = r .done .skips };
+    done = record {
+      right = r .done .right;
+      heads = λ b l z. (let (h, e) = r .done .heads b l z in (record { below = h .below; named = h .named; fresh = h .fresh }, bucket-kinds v (head n v b) ∙ e));
+      links = λ s h z. (let (l, g, e) = r .done .links s h z in (l, g, bucket-kinds v (link n v s) ∙ e ∙ sym (bucket-kinds v s)));
+      greatest = λ s h. rw (bucket-kinds v s) (r .done .greatest s h);
+      next = λ p s g h e. r .done .next p s g h (sym (bucket-kinds v p) ∙ e ∙ bucket-kinds v s);
+    };
     fresh = λ c l a b. (let f = r .fresh c l a b in (f .0 ∙ add-one i, f .1));
     stale = r .stale;
     quiet = r .quiet;
@@ -47,10 +58,10 @@ module _ (n k start : ℕ) (marks nexts : List ℕ) (held : Held n k start nexts
 
   -- what holds between rounds
   abbrev pub Between : Type 0
-  Between = (length w ≡ length w₀) × InLayer M i w × ((j : ℕ) → 5 * n ≤ j → at w j ≡ at w₀ j)
+  Between = (length w ≡ length w₀) × InLayer M i w × ((j : ℕ) → 6 * n ≤ j → at w j ≡ at w₀ j)
 
-  module _ (room : 5 * n ≤ length w₀) (h : Between) where
-    inner : 5 * n ≤ length w
+  module _ (room : 6 * n ≤ length w₀) (h : Between) where
+    inner : 6 * n ≤ length w
     inner = omega (arith, h .0)
 
     pub round-small : i + 1 < 65536
@@ -71,7 +82,7 @@ module _ (n k start : ℕ) (marks nexts : List ℕ) (held : Held n k start nexts
     round-unsettled v t e r = busy-unsettled M (held-lawful marks held) w v i t inner (h .1) (with-kinds v t r) e
 
     pub round-deepens : (v u : List ℕ) (t : Bool) → t ≡ true → Rounded (machineIn n k start [] nexts) w v (i + 1) n t → Moved n n v u
-        → (length u ≡ length w₀) × InLayer M (i + 1) u × ((j : ℕ) → 5 * n ≤ j → at u j ≡ at w₀ j)
+        → (length u ≡ length w₀) × InLayer M (i + 1) u × ((j : ℕ) → 6 * n ≤ j → at u j ≡ at w₀ j)
     round-deepens v u t e r m = (
       m .long ∙ r .long ∙ h .0,
       subst (λ (j : ℕ). InLayer M j u) (sym (add-one i)) (deeper M (held-lawful marks held) w v i t inner (h .1) (with-kinds v t r) u e m),

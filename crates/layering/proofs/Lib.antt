@@ -1,7 +1,8 @@
 -- Laws of the rounds.
-pub mod Chaining
+pub mod Buckets
 pub mod Stepping
 pub mod Storing
+pub mod Emptying
 pub mod Rounding
 pub mod Moving
 pub mod Deepening

@@ -3,33 +3,48 @@ use mathlib.Core.Path.{_≡_, refl, sym, subst, subst₂, _∙_}
 use mathlib.Core.Logic.{_≢_}
 use mathlib.Core.Bool.{Bool, true, false, _||_, true≢false}
 use mathlib.Core.List.{List}
-use Prim.Native.Nat.{ℕ, suc, _<_}
+use Prim.Native.Nat.{ℕ, suc, _+_, _*_, _<_}
 use native.Mathlib.Nat.{not-suc-le-zero}
 use native.Mathlib.Decide.{ℕ-discrete}
 use native.Mathlib.Omega.{arith}
 use Rattle.counting.proofs.Cases.{by-test}
 use Rattle.automaton.specs.Machine.{Machine}
-use Rattle.layering.specs.Work.{this, later, born, from, Named, Done, Advanced, Rounded}
+use Rattle.layering.specs.Work.{this, later, head, born, from, Named, Emptied, Advanced, Rounded}
 
-pub done-none : (M : Machine) (w : List ℕ) → Done M w 0
-done-none M w = record {
-  right = λ s k. absurd (not-suc-le-zero k);
-  ends = λ r k. absurd (not-suc-le-zero k);
-  leads = λ r k. absurd (not-suc-le-zero k);
-  skips = λ r k. absurd (not-suc-le-zero k);
-}
-
-pub round-begins : (M : Machine) (w : List ℕ) (round : ℕ) → Rounded M w w round 0 false
-round-begins M w round = record {
+-- with the buckets empty, none is done
+pub round-begins : (M : Machine) (w : List ℕ) (round : ℕ) → ((b : ℕ) → b < M .size → head (M .size) w b ≡ 0) → Rounded M w w round 0 false
+round-begins M w round h = record {
   long = refl;
   same = λ x l. refl;
-  done = done-none M w;
+  done = record {
+    right = λ s k. absurd (not-suc-le-zero k);
+    heads = λ b l z. absurd (z (h b l));
+    links = λ s g. absurd (not-suc-le-zero (g .below));
+    greatest = λ s g. absurd (not-suc-le-zero (g .below));
+    next = λ r s g. absurd (not-suc-le-zero (g .below));
+  };
   fresh = λ c k. absurd (not-suc-le-zero k);
-  stale = λ c l h. (refl, refl);
+  stale = λ c l g. (refl, refl);
   quiet = λ e x k. absurd (not-suc-le-zero k);
   busy = λ e. absurd (true≢false (sym e));
   beyond = λ i k. refl;
 }
+
+-- the round, seen from before its buckets were emptied
+pub round-from : (M : Machine) (w v u : List ℕ) (round : ℕ) (t : Bool) → Emptied (M .size) (M .size) w v → Rounded M v u round (M .size) t → Rounded M w u round (M .size) t
+round-from M w v u round t m r = record {
+  long = r .long ∙ m .long;
+  same = λ x l. r .same x l ∙ this-as x l;
+  done = r .done;
+  fresh = λ c l e f. (let (b, p) = r .fresh c l e (λ z. f (sym (this-as c l) ∙ z)) in (b, p ∙ this-as c l));
+  stale = λ c l h. (let (b, p) = r .stale c l (λ k e. this-as c l ∙ h k e) in (b ∙ m .below (3 * M .size + c) (omega arith), p ∙ m .below (4 * M .size + c) (omega arith)));
+  quiet = λ e x l f. sym (this-as x l) ∙ r .quiet e x l f;
+  busy = λ e. (let (x, l, f, k) = r .busy e in (x, l, f, omega (arith, this-as x l)));
+  beyond = λ i k. r .beyond i k ∙ m .beyond i k;
+}
+  where
+    this-as : (x : ℕ) → x < M .size → this v x ≡ this w x
+    this-as x l = m .below x (omega arith)
 
 -- names of this layer that agree are as well named
 pub named-same : (n : ℕ) (w v : List ℕ) → ((x : ℕ) → x < n → this v x ≡ this w x) → Named n w → Named n v

@@ -1,26 +1,26 @@
--- One state more is done: where its name was there before, and where it ends its class's chain.
+-- One state more is done: where its name was there before, and where its name is new and goes to the head of its bucket.
 use mathlib.Core.Path.{_≡_, sym, ap, subst, _∙_}
 use mathlib.Core.Logic.{_≢_}
 use mathlib.Core.List.{List}
 use Prim.Native.Nat.{ℕ, suc, _≤_, _<_}
-use native.Mathlib.Decide.{ℕ-discrete, decLt}
+use native.Mathlib.Decide.{ℕ-discrete}
 use native.Mathlib.Omega.{arith}
 use lib.ListN.{length, take, length-take}
 use lib.Seq.{ext-getD, getD-take}
 use Rattle.counting.specs.Least.{name}
-use Rattle.automaton.specs.Machine.{Machine}
+use Rattle.automaton.specs.Machine.{Machine, Lawful}
 use Rattle.automaton.specs.Layers.{alikeNext}
-use Rattle.layering.specs.Work.{this, later, link, Named, Between, Done}
+use Rattle.layering.specs.Work.{this, later, link, head, bucket, New, Done}
+use Rattle.layering.proofs.Buckets.{bucket-below, bucket-same}
 
--- The two lists agree on this layer, on the next layer's names but for q, and on the links but for q and r.
-pub record Agrees (n : ℕ) (w v : List ℕ) (q r : ℕ) : Type 0 where
+-- The two lists agree on this layer, and on the next layer's names and the links but for q.
+pub record Agrees (n : ℕ) (w v : List ℕ) (q : ℕ) : Type 0 where
   pub long : length v ≡ length w
   pub this-same : (x : ℕ) → x < n → this v x ≡ this w x
   pub later-same : (x : ℕ) → x < n → x ≢ q → later n v x ≡ later n w x
-  pub link-same : (x : ℕ) → x < n → x ≢ q → x ≢ r → link n v x ≡ link n w x
-  pub link-own : link n v q ≡ 0
+  pub link-same : (x : ℕ) → x < n → x ≢ q → link n v x ≡ link n w x
 
-module _ (M : Machine) (w v : List ℕ) (q r : ℕ) (l : q < M .size) (room : M .size ≤ length w) (named : Named (M .size) w) (d : Done M w q) (a : Agrees (M .size) w v q r) where
+module _ (M : Machine) (lawful : Lawful M) (w v : List ℕ) (q : ℕ) (l : q < M .size) (d : Done M w q) (a : Agrees (M .size) w v q) (nq : later (M .size) v q ≡ name (alikeNext M (take (M .size) w)) q) where
   abbrev n : ℕ
   n = M .size
 
@@ -29,127 +29,110 @@ module _ (M : Machine) (w v : List ℕ) (q r : ℕ) (l : q < M .size) (room : M 
       let m : i < n = omega (arith, length-take n v) in
       getD-take n v i 0 m ∙ a .this-same i m ∙ sym (getD-take n w i 0 m))
 
-  -- a name between, seen in the lists before
-  seen : (x end s : ℕ) → x < q → end ≤ q → Between n v x end s → Between n w x end s
-  seen x end s k m b = record {
-    above = b .above;
-    below = b .below;
-    named = sym (a .later-same s (omega (arith, b .below)) (omega (arith, b .below))) ∙ b .named;
-    class = sym (a .this-same s (omega (arith, b .below))) ∙ b .class ∙ a .this-same x (omega arith);
-  }
+  buckets : (s : ℕ) → s < n → bucket M v s ≡ bucket M w s
+  buckets s k = bucket-same M lawful w v (a .this-same) s k
 
-  right-before : (s : ℕ) → s < q → later n v s ≡ name (alikeNext M (take n v)) s
-  right-before s k = a .later-same s (omega arith) (omega arith) ∙ d .right s k ∙ ap (λ (xs : List ℕ). name (alikeNext M xs) s) (sym names)
+  right : (s : ℕ) → s < suc q → later n v s ≡ name (alikeNext M (take n v)) s
+  right s k = elim (ℕ-discrete s q) [
+    | yes e ↦ subst (λ (x : ℕ). later n v x ≡ name (alikeNext M (take n v)) x) (sym e) (nq ∙ ap (λ (xs : List ℕ). name (alikeNext M xs) q) (sym names))
+    | no u ↦ a .later-same s (omega arith) u ∙ d .right s (omega arith) ∙ ap (λ (xs : List ℕ). name (alikeNext M xs) s) (sym names)
+  ]
+
+  -- a new name before is one now, and the other way round, but for q
+  lifted : (s : ℕ) → New n w q s → New n v (suc q) s
+  lifted s h =
+      let k : s < q = h .below in
+      record { below = omega arith; named = a .later-same s (omega arith) (omega arith) ∙ h .named; fresh = λ e. h .fresh (sym (a .this-same s (omega arith)) ∙ e) }
+
+  lowered : (s : ℕ) → s ≢ q → New n v (suc q) s → New n w q s
+  lowered s u h =
+      let k : s < q = omega (arith, h .below) in
+      record { below = k; named = sym (a .later-same s (omega arith) u) ∙ h .named; fresh = λ e. h .fresh (a .this-same s (omega arith) ∙ e) }
+
+  -- a name of a bucket before is one now
+  put : (s b : ℕ) → New n w q s → bucket M w s ≡ b → New n v (suc q) s × (bucket M v s ≡ b)
+  put s b h e =
+      let k : s < q = h .below in
+      (lifted s h, buckets s (omega arith) ∙ e)
 
   -- a link of a state done before is one now
-  led : (x : ℕ) → x < q → link n v x ≡ link n w x → later n v x ≡ x → link n v x ≢ 0 → Between n v x (suc q) (link n v x)
-  led x k f e z =
-      let m : x < n = omega arith in
-      let b : Between n w x q (link n w x) = d .leads x k (sym (a .later-same x m (omega arith)) ∙ e) (λ h. z (f ∙ h)) in
-      subst (Between n v x (suc q)) (sym f)
-      (record {
-        above = b .above;
-        below = omega (arith, b .below);
-        named = a .later-same (link n w x) (omega (arith, b .below)) (omega (arith, b .below)) ∙ b .named;
-        class = a .this-same (link n w x) (omega (arith, b .below)) ∙ b .class ∙ sym (a .this-same x m);
-      })
+  led : (s : ℕ) → s ≢ q → New n v (suc q) s → link n v s ≢ 0 → (link n v s < s) × New n v (suc q) (link n v s) × (bucket M v (link n v s) ≡ bucket M v s)
+  led s u h z =
+      let k : s < q = omega (arith, h .below) in
+      let e : link n v s ≡ link n w s = a .link-same s (omega arith) u in
+      let (o, g, f) = d .links s (lowered s u h) (λ y. z (e ∙ y)) in
+      let (g′, f′) = put (link n w s) (bucket M w s) g f in
+      subst (λ (x : ℕ). (x < s) × New n v (suc q) x × (bucket M v x ≡ bucket M v s)) (sym e) (o, g′, f′ ∙ sym (buckets s (omega arith)))
 
-  skipped : (x : ℕ) → x < q → link n v x ≡ link n w x → later n v x ≡ x → link n v x ≢ 0 → (s : ℕ) → Between n v x (link n v x) s → ⊥
-  skipped x k f e z s b =
-      let m : x < n = omega arith in
-      let h : link n w x ≢ 0 = λ h. z (f ∙ h) in
-      let o : later n w x ≡ x = sym (a .later-same x m (omega arith)) ∙ e in
-      d .skips x k o h s (seen x (link n w x) s k (omega (arith, d .leads x k o h .below)) (subst (λ (end : ℕ). Between n v x end s) f b))
+  skipped : (r s : ℕ) → r ≢ q → New n v (suc q) r → New n v (suc q) s → bucket M v r ≡ bucket M v s → s < r → s ≤ link n v r
+  skipped r s u g h e k =
+      let i : r < q = omega (arith, g .below) in
+      let b : bucket M w r ≡ bucket M w s = sym (buckets r (omega arith)) ∙ e ∙ buckets s (omega arith) in
+      omega (arith, d .next r s (lowered r u g) (lowered s (omega arith) h) b k, a .link-same r (omega arith) u)
 
-  -- the name was there before
-  pub done-found : (link n v r ≡ link n w r) → later n v q ≡ name (alikeNext M (take n w)) q → (later n v q ≡ q → this w q ≡ q) → Done M v (suc q)
-  done-found lr nq own = record { right = right; ends = ends; leads = leads; skips = skips }
+  -- the name was there before, or is the one that the state had
+  pub done-found : ((b : ℕ) → b < n → head n v b ≡ head n w b) → (later n v q ≡ q → this w q ≡ q) → Done M v (suc q)
+  done-found hs own = record {
+    right = right;
+    heads = λ b k z.
+        (let e : head n v b ≡ head n w b = hs b k in
+        let (g, f) = d .heads b k (λ y. z (e ∙ y)) in
+        subst (λ (x : ℕ). New n v (suc q) x × (bucket M v x ≡ b)) (sym e) (put (head n w b) b g f));
+    links = λ s h z. led s (old s h) h z;
+    greatest = λ s h.
+        (let k : s < q = omega (arith, h .below, old s h) in
+        let b : ℕ = bucket M w s in
+        omega (arith, d .greatest s (lowered s (old s h) h), ap (head n v) (buckets s (omega arith)), hs b (bucket-below M w s (lawful .some-state))));
+    next = λ r s g h e k. skipped r s (old r g) g h e k;
+  }
     where
-      same-link : (x : ℕ) → x < q → link n v x ≡ link n w x
-      same-link x k = elim (ℕ-discrete x r) [ yes e ↦ subst (λ (y : ℕ). link n v y ≡ link n w y) (sym e) lr | no u ↦ a .link-same x (omega arith) (omega arith) u ]
+      -- q is no new name
+      old : (s : ℕ) → New n v (suc q) s → s ≢ q
+      old s h e = h .fresh (subst (λ (x : ℕ). this v x ≡ x) (sym e) (a .this-same q l ∙ own (subst (λ (x : ℕ). later n v x ≡ x) e (h .named))))
 
-      right : (s : ℕ) → s < suc q → later n v s ≡ name (alikeNext M (take n v)) s
-      right s k = elim (ℕ-discrete s q) [
-        | yes e ↦ subst (λ (x : ℕ). later n v x ≡ name (alikeNext M (take n v)) x) (sym e) (nq ∙ ap (λ (xs : List ℕ). name (alikeNext M xs) q) (sym names))
-        | no u ↦ right-before s (omega arith)
-      ]
-
-      ends : (x : ℕ) → x < suc q → later n v x ≡ x → link n v x ≡ 0 → (s : ℕ) → Between n v x (suc q) s → ⊥
-      ends x k e z s b = elim (ℕ-discrete x q) [
-        | yes h ↦ omega (arith, b .above, b .below)
-        | no u ↦ elim (ℕ-discrete s q) [
-          | yes h ↦
-              (let c : this w q ≡ q = own (sym (ap (later n v) h) ∙ b .named ∙ h) in
-              let f : this v s ≡ this v x = b .class in
-              omega (arith, a .this-same x (omega arith), a .this-same q l, ap (this v) h, named .low x (omega arith), b .above))
-          | no t ↦
-              (let b′ : Between n v x q s = record { above = b .above; below = omega (arith, b .below); named = b .named; class = b .class } in
-              d .ends x (omega arith) (sym (a .later-same x (omega arith) u) ∙ e) (sym (same-link x (omega arith)) ∙ z) s (seen x q s (omega arith) (omega arith) b′))
-        ]
-      ]
-
-      leads : (x : ℕ) → x < suc q → later n v x ≡ x → link n v x ≢ 0 → Between n v x (suc q) (link n v x)
-      leads x k e z = elim (ℕ-discrete x q) [
-        | yes h ↦ absurd (z (ap (link n v) h ∙ a .link-own))
-        | no u ↦ led x (omega arith) (same-link x (omega arith)) e z
-      ]
-
-      skips : (x : ℕ) → x < suc q → later n v x ≡ x → link n v x ≢ 0 → (s : ℕ) → Between n v x (link n v x) s → ⊥
-      skips x k e z s b = elim (ℕ-discrete x q) [
-        | yes h ↦ absurd (z (ap (link n v) h ∙ a .link-own))
-        | no u ↦ skipped x (omega arith) (same-link x (omega arith)) e z s b
-      ]
-
-  -- the state ends its class's chain
-  pub done-last : r < q → later n w r ≡ r → this w r ≡ this w q → link n w r ≡ 0 → name (alikeNext M (take n w)) q ≡ q → later n v q ≡ q → link n v r ≡ q → Done M v (suc q)
-  done-last rq rr rc rl nq lq lr = record { right = right; ends = ends; leads = leads; skips = skips }
+  -- the name is new
+  pub done-new : this w q ≢ q → later n v q ≡ q → ((b : ℕ) → b < n → b ≢ bucket M w q → head n v b ≡ head n w b) → head n v (bucket M w q) ≡ q → link n v q ≡ head n w (bucket M w q) → Done M v (suc q)
+  done-new fresh own hs hq lq = record {
+    right = right;
+    heads = λ b k z. elim (ℕ-discrete b c) [
+      | yes e ↦ subst (λ (x : ℕ). New n v (suc q) x × (bucket M v x ≡ b)) (sym (ap (head n v) e ∙ hq)) (new, buckets q l ∙ sym e)
+      | no u ↦
+          (let e : head n v b ≡ head n w b = hs b k u in
+          let (g, f) = d .heads b k (λ y. z (e ∙ y)) in
+          subst (λ (x : ℕ). New n v (suc q) x × (bucket M v x ≡ b)) (sym e) (put (head n w b) b g f))
+    ];
+    links = λ s h z. elim (ℕ-discrete s q) [
+      | yes e ↦
+          (let f : link n v s ≡ head n w c = ap (link n v) e ∙ lq in
+          let (g, i) = d .heads c below (λ y. z (f ∙ y)) in
+          let (g′, i′) = put (head n w c) c g i in
+          subst (λ (x : ℕ). (x < s) × New n v (suc q) x × (bucket M v x ≡ bucket M v s)) (sym f) (omega (arith, g .below), g′, i′ ∙ sym (buckets q l) ∙ ap (bucket M v) (sym e)))
+      | no u ↦ led s u h z
+    ];
+    greatest = λ s h. elim (ℕ-discrete s q) [
+      | yes e ↦ omega (arith, ap (λ (x : ℕ). head n v (bucket M v x)) e, ap (head n v) (buckets q l), hq)
+      | no u ↦
+          (let k : s < q = omega (arith, h .below) in
+          let f : head n v (bucket M v s) ≡ head n v (bucket M w s) = ap (head n v) (buckets s (omega arith)) in
+          elim (ℕ-discrete (bucket M w s) c) [
+            | yes e ↦ omega (arith, f, ap (head n v) e, hq)
+            | no t ↦ omega (arith, f, hs (bucket M w s) (bucket-below M w s (lawful .some-state)) t, d .greatest s (lowered s u h))
+          ])
+    ];
+    next = λ r s g h e k. elim (ℕ-discrete r q) [
+      | yes f ↦
+          (let i : s < q = omega arith in
+          let b : bucket M w s ≡ c = sym (buckets s (omega arith)) ∙ sym e ∙ ap (bucket M v) f ∙ buckets q l in
+          omega (arith, d .greatest s (lowered s (omega arith) h), ap (head n w) b, ap (link n v) f, lq))
+      | no u ↦ skipped r s u g h e k
+    ];
+  }
     where
-      right : (s : ℕ) → s < suc q → later n v s ≡ name (alikeNext M (take n v)) s
-      right s k = elim (ℕ-discrete s q) [
-        | yes e ↦ subst (λ (x : ℕ). later n v x ≡ name (alikeNext M (take n v)) x) (sym e) (lq ∙ sym nq ∙ ap (λ (xs : List ℕ). name (alikeNext M xs) q) (sym names))
-        | no u ↦ right-before s (omega arith)
-      ]
+      c : ℕ
+      c = bucket M w q
 
-      -- no other chain of the class ends before q
-      only : (x : ℕ) → x < q → x ≢ r → later n w x ≡ x → this w x ≡ this w q → link n w x ≡ 0 → ⊥
-      only x k u e c z = elim (decLt x r) [
-        | yes h ↦ d .ends x k e z r (record { above = h; below = rq; named = rr; class = rc ∙ sym c })
-        | no t ↦ d .ends r rq rr rl x (record { above = omega arith; below = k; named = e; class = c ∙ sym rc })
-      ]
+      below : c < n
+      below = bucket-below M w q (lawful .some-state)
 
-      ends : (x : ℕ) → x < suc q → later n v x ≡ x → link n v x ≡ 0 → (s : ℕ) → Between n v x (suc q) s → ⊥
-      ends x k e z s b = elim (ℕ-discrete x q) [
-        | yes h ↦ omega (arith, b .above, b .below)
-        | no u ↦ elim (ℕ-discrete x r) [
-          | yes h ↦ omega (arith, ap (link n v) h, lr)
-          | no t ↦
-              (let m : x < n = omega arith in
-              let e′ : later n w x ≡ x = sym (a .later-same x m u) ∙ e in
-              let z′ : link n w x ≡ 0 = sym (a .link-same x m u t) ∙ z in
-              elim (ℕ-discrete s q) [
-                | yes h ↦ only x (omega arith) t e′ (sym (a .this-same x m) ∙ sym (b .class) ∙ ap (this v) h ∙ a .this-same q l) z′
-                | no g ↦ d .ends x (omega arith) e′ z′ s (seen x q s (omega arith) (omega arith) (record { above = b .above; below = omega (arith, b .below); named = b .named; class = b .class }))
-              ])
-        ]
-      ]
-
-      leads : (x : ℕ) → x < suc q → later n v x ≡ x → link n v x ≢ 0 → Between n v x (suc q) (link n v x)
-      leads x k e z = elim (ℕ-discrete x q) [
-        | yes h ↦ absurd (z (ap (link n v) h ∙ a .link-own))
-        | no u ↦ elim (ℕ-discrete x r) [
-          | yes h ↦ subst (Between n v x (suc q)) (sym (ap (link n v) h ∙ lr)) (record { above = omega arith; below = omega arith; named = lq; class = a .this-same q l ∙ sym rc ∙ sym (a .this-same r (omega arith)) ∙ ap (this v) (sym h) })
-          | no t ↦ led x (omega arith) (a .link-same x (omega arith) u t) e z
-        ]
-      ]
-
-      skips : (x : ℕ) → x < suc q → later n v x ≡ x → link n v x ≢ 0 → (s : ℕ) → Between n v x (link n v x) s → ⊥
-      skips x k e z s b = elim (ℕ-discrete x q) [
-        | yes h ↦ absurd (z (ap (link n v) h ∙ a .link-own))
-        | no u ↦ elim (ℕ-discrete x r) [
-          | yes h ↦
-              (let f : link n v x ≡ q = ap (link n v) h ∙ lr in
-              let b′ : Between n w x q s = seen x q s (omega arith) (omega arith) (subst (λ (end : ℕ). Between n v x end s) f b) in
-              d .ends r rq rr rl s (subst (λ (y : ℕ). Between n w y q s) h b′))
-          | no t ↦ skipped x (omega arith) (a .link-same x (omega arith) u t) e z s b
-        ]
-      ]
+      new : New n v (suc q) q
+      new = record { below = omega arith; named = own; fresh = λ e. fresh (sym (a .this-same q l) ∙ e) }

@@ -6,7 +6,6 @@ use native.Mathlib.Omega.{arith}
 use Rattle.table.specs.Leaving.{left}
 use Rattle.table.proofs.Leavings.{left-said, left-lent}
 use Rattle.table.proofs.Uniqueness.{refusal-unique}
-use Rattle.layering.specs.declared.layers.Counts.{Counts}
 use Rattle.layering.specs.declared.layers.Layered.{Layered}
 use Rattle.layering.specs.declared.layers.Layered.the-variants.{Found, Refused}
 use Rattle.layering.specs.Calls.{told, layersLeave}

@@ -4,7 +4,7 @@ use mathlib.Core.List.{List, [], _∷_}
 use Prim.Native.Nat.{ℕ, _*_, _≤_, _<_}
 use native.Mathlib.Omega.{arith}
 use borrow.Author.Tests.{lt-ltb, le-ltb}
-use lib.Dec.{eqb, ltb}
+use lib.Dec.{eqb}
 use lib.ListN.{length, take}
 use lib.Seq.{ext-getD, getD-take, length-take-le}
 use Rattle.counting.specs.Lists.{at}
@@ -16,7 +16,7 @@ use Rattle.lending.specs.Memory.{cleared, written}
 use Rattle.lending.proofs.Memories.{cleared-same}
 use Rattle.table.specs.Answers.{gives, refuses}
 use Rattle.table.specs.Judging.{judged}
-use Rattle.table.specs.Leaving.{Left, left}
+use Rattle.table.specs.Leaving.{left}
 use Rattle.table.specs.Encoding.{machineIn}
 use Rattle.table.specs.Accepted.{Good}
 use Rattle.table.specs.declared.answer.Sizes.{Sizes}

@@ -6,13 +6,8 @@ ghost use lib.ListN.{length};
 ghost use Rattle.counting.specs.Lists.{at};
 ghost use Rattle.counting.specs.Least.{pick};
 ghost use Rattle.layering.specs.Layered.{FirstNamed, Unborn, Begun};
+use lending::one_of;
 use table::fields::mark_of;
-
-fn either_of(plain: bool, zero: usize, one: usize) -> usize
-    ensures { λ r. ⌜ r ≡ pick plain zero one ⌝ }
-{
-    if plain { zero } else { one }
-}
 
 // The first state of a mark among one state more: it stays where that state has the mark, and goes past it where there was none before.
 fn past(x: usize, q: usize, here: bool) -> usize
@@ -39,7 +34,7 @@ pub fn mark_names(marks: &[u8], names: &mut [u16], n: usize)
     let mut q = 0;
     while q < n {
         let plain = mark_of(marks, q) == 0;
-        let name = either_of(plain, zero, one);
+        let name = one_of(plain, zero, one);
         names[q] = name as u16;
         zero = past(zero, q, plain);
         one = past(one, q, !plain);
@@ -49,7 +44,7 @@ pub fn mark_names(marks: &[u8], names: &mut [u16], n: usize)
 
 // Notes that all names are born in layer 0.
 fn clear_births(work: &mut [u16], n: usize)
-    requires { ⌜ (5 * n ≤ length (now work)) × (n ≤ 1024) ⌝ }
+    requires { ⌜ (6 * n ≤ length (now work)) × (n ≤ 1024) ⌝ }
     ensures { λ _. ⌜ Unborn n n (now (work .entry)) (now (work .exit)) ⌝ }
 {
     let mut q = 0;
@@ -63,7 +58,7 @@ fn clear_births(work: &mut [u16], n: usize)
 // Names each state by the first state of its mark, and notes that these names are born in layer 0.
 pub fn first_names(marks: &[u8], work: &mut [u16], n: usize)
     requires marked { ⌜ (length (now marks) ≡ n) × ((q : ℕ) → q < n → at (now marks) q < 2) ⌝ }
-    requires room { ⌜ (5 * n ≤ length (now work)) × (n ≤ 1024) ⌝ }
+    requires room { ⌜ (6 * n ≤ length (now work)) × (n ≤ 1024) ⌝ }
     ensures { λ _. ⌜ Begun n (now (marks .entry)) (now (work .entry)) (now (work .exit)) ⌝ }
 {
     mark_names(marks, work, n);

@@ -1,10 +1,10 @@
 -- Lent memory told apart number by number: what is cleared at its front, and what is written there.
-use mathlib.Core.Path.{_≡_, refl, sym, ap, ap₂, _∙_}
+use mathlib.Core.Path.{_≡_, sym, ap, ap₂, _∙_}
 use mathlib.Core.List.{List, _++_}
 use Prim.Native.Nat.{ℕ, _+_, _-_, _≤_, _<_}
 use native.Mathlib.Omega.{arith}
 use lib.ListN.{length, getD, drop, take, replicate, length-drop, length-take, take-append-drop, length-append, length-replicate, getD-replicate, List·getD-append}
-use lib.Seq.{getD-take, getD-drop, getD-append-add, ext-getD}
+use lib.Seq.{take-at, drop-at, getD-take, getD-drop, getD-append-add, ext-getD}
 use Rattle.counting.specs.Lists.{at}
 use Rattle.lending.specs.Memory.{cleared, written}
 
@@ -53,3 +53,19 @@ written-is result lent after long room front behind =
     ∙ ap₂ _++_ (ext-getD 0 (take (length result) after) result (omega (arith, length-take (length result) after))
     (λ i l. let m : i < length result = omega (arith, length-take (length result) after) in getD-take (length result) after i 0 m ∙ front i m))
     (drop-same (length result) after lent long behind)
+
+pub written-length : (result lent : List ℕ) → length result ≤ length lent → length (written result lent) ≡ length lent
+unfolding written
+written-length result lent room = omega (arith, length-append result (drop (length result) lent), length-drop (length result) lent)
+
+-- the result stands at the front
+pub written-front : (m : ℕ) (result lent : List ℕ) → length result ≡ m → take m (written result lent) ≡ result
+unfolding written
+written-front m result lent long = take-at result (drop (length result) lent) m long
+
+-- a result written over another of its length leaves nothing of it
+pub written-over : (result former lent : List ℕ) → length result ≡ length former → written result (written former lent) ≡ written result lent
+unfolding written
+written-over result former lent long =
+    ap (λ (rest : List ℕ). result ++ rest)
+    (drop-at former (drop (length former) lent) (length result) (sym long) ∙ ap (λ (m : ℕ). drop m lent) (sym long))

@@ -1,7 +1,8 @@
-// Lent memory: numbers of two bytes read from bytes, the high byte first; lent numbers read, and cleared; a count of numbers that pass a test.
+// Lent memory: numbers of two bytes read from bytes and written to them, the high byte first; lent numbers read, and cleared; a count of numbers that pass a test; one of two by a test.
 ghost use mathlib.Core.Path.{_≡_};
-ghost use Prim.Native.Nat.{_+_, _<_, _≤_};
-ghost use lib.ListN.{length};
+ghost use mathlib.Core.Bool.{_||_};
+ghost use Prim.Native.Nat.{_+_, _/_, _%_, _<_, _≤_};
+ghost use lib.ListN.{length, set};
 ghost use Rattle.counting.specs.Lists.{at};
 ghost use Rattle.counting.specs.Least.{pick};
 ghost use Rattle.lending.specs.Pairs.{pairAt};
@@ -43,4 +44,28 @@ pub fn counted(count: usize, more: bool) -> usize
     ensures { λ r. ⌜ r ≡ count + pick more 1 0 ⌝ }
 {
     if more { count + 1 } else { count }
+}
+
+// Writes a number of two bytes at a place, the high byte first.
+pub fn put_pair(out: &mut [u8], place: usize, value: usize)
+    requires { ⌜ (place + 1 < length (now out)) × (value < 65536) ⌝ }
+    ensures { λ _. ⌜ now (out .exit) ≡ set (set (now (out .entry)) place (value / 256)) (place + 1) (value % 256) ⌝ }
+{
+    let low = place + 1;
+    out[place] = (value / 256) as u8;
+    out[low] = (value % 256) as u8;
+}
+
+// Whether one of two tests holds.
+pub fn either(a: bool, b: bool) -> bool
+    ensures { λ r. ⌜ r ≡ (a || b) ⌝ }
+{
+    if a { true } else { b }
+}
+
+// One of two numbers, by a test.
+pub fn one_of(test: bool, x: usize, y: usize) -> usize
+    ensures { λ r. ⌜ r ≡ pick test x y ⌝ }
+{
+    if test { x } else { y }
 }

@@ -2,4 +2,5 @@
 pub mod Walking
 pub mod Signs
 pub mod Answering
+pub mod Equivalence
 pub mod Uniqueness

@@ -3,9 +3,11 @@ use mathlib.Core.Path.{_≡_, refl}
 use mathlib.Core.List.{List, [], _∷_}
 use Prim.Native.Nat.{ℕ, zero, suc, _<_}
 use native.Mathlib.Nat.{le-of-suc-le-suc, not-suc-le-zero}
+use native.Mathlib.Decide.{decLt}
+use native.Mathlib.Omega.{arith}
 use borrow.Author.Tests.{eqb-true, ltb-true}
 use lib.Dec.{eqb, ltb}
-use lib.ListN.{length, length-map}
+use lib.ListN.{length, length-map, List·getD-eq-default}
 use Rattle.counting.specs.Lists.{at}
 use Rattle.counting.specs.Least.{pick}
 use Rattle.counting.specs.Counts.{all}
@@ -34,8 +36,16 @@ module _ (plan : List ℕ) where
   spelled-at (b ∷ line) zero l = refl
   spelled-at (b ∷ line) (suc i) l = spelled-at line i (le-of-suc-le-suc l)
 
-  -- a line of bytes spells a word of 47 signs
-  pub spelled-word : SignPlan plan → (line : List ℕ) → ((i : ℕ) → at line i < 256) → Word 47 (spelled plan line)
+  -- past the plan's end every sign is 0
+  plan-below : SignPlan plan → (b : ℕ) → at plan b < 47
+  plan-below p b = by (decLt b 256)
+    where
+      by : Dec (b < 256) → at plan b < 47
+      by (yes l) = p .below b l
+      by (no u) = rw (List·getD-eq-default plan 0 {n = b} (omega (arith, p .long))) (omega arith)
+
+  -- a line spells a word of 47 signs
+  pub spelled-word : SignPlan plan → (line : List ℕ) → Word 47 (spelled plan line)
   unfolding spelled
-  spelled-word p [] h = tt
-  spelled-word p (b ∷ line) h = (p .below b (h zero), spelled-word p line (λ i. h (suc i)))
+  spelled-word p [] = tt
+  spelled-word p (b ∷ line) = (plan-below p b, spelled-word p line)

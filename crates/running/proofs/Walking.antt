@@ -5,16 +5,16 @@ use Prim.Native.Nat.{ℕ, _+_, _≤_, _<_}
 use native.Mathlib.Numerals.{add-one}
 use native.Mathlib.Decide.{decLt}
 use native.Mathlib.Omega.{arith}
-use borrow.Author.Tests.{lt-ltb, le-ltb, leb-false}
+use borrow.Author.Tests.{lt-ltb, le-ltb, lt-leb, leb-false}
 use lib.Dec.{leb}
 use lib.ListN.{length, take}
 use lib.Seq.{take-suc, take-all}
 use Rattle.counting.specs.Lists.{at}
 use Rattle.counting.specs.Least.{pick}
-use Rattle.counting.proofs.Leasts.{least-is}
+use Rattle.counting.proofs.Leasts.{least-is, least-none}
 use Rattle.automaton.specs.Machine.{Machine}
 use Rattle.automaton.specs.Words.{Word, steps}
-use Rattle.automaton.proofs.Walks.{steps-append, word-each}
+use Rattle.automaton.proofs.Walks.{steps-append, word-each, word-at}
 use Rattle.running.specs.declared.words.Walk.the-variants.{Stands, Strange}
 use Rattle.running.specs.Running.{badSign, walked}
 
@@ -27,7 +27,7 @@ module _ (M : Machine) (q : ℕ) (w : List ℕ) where
   steps-whole i l = ap (steps M q) (take-all i w l)
 
 module _ (M : Machine) (word : List ℕ) where
-  bad-most : badSign (M .signs) word ≤ length word
+  pub bad-most : badSign (M .signs) word ≤ length word
   unfolding badSign
   bad-most = least-is (length word) _ .within
 
@@ -72,3 +72,8 @@ module _ (M : Machine) (word : List ℕ) where
 pub word-of : (k : ℕ) (word : List ℕ) → badSign k word ≡ length word → Word k word
 unfolding badSign
 word-of k word e = word-each k word (λ i l. leb-false k (at word i) (least-is (length word) (λ i. leb k (at word i)) .before i (omega arith)))
+
+-- a word has no strange sign
+pub word-clean : (k : ℕ) (word : List ℕ) → Word k word → badSign k word ≡ length word
+unfolding badSign
+word-clean k word h = least-none (length word) (λ i. leb k (at word i)) (λ i l. lt-leb k (at word i) (word-at k word h i l))

@@ -17,7 +17,8 @@ use Rattle.counting.specs.Least.{pick}
 use Rattle.counting.specs.Counts.{count}
 use Rattle.counting.proofs.Tallies.{count-most}
 use Rattle.automaton.specs.Machine.{Machine}
-use Rattle.splitting.specs.Work.{leadsTo, ledOf, touchedOf, Counted}
+use Rattle.splitting.specs.Work.{classIn, leadsTo, ledOf, touchedOf, Counted}
+use Rattle.splitting.proofs.Places.{part-same}
 
 -- one number more that passes, or that doesn't
 pub count-hit : (x : ℕ) (P : ℕ → Bool) → P x ≡ true → count (x + 1) P ≡ count x P + 1
@@ -75,6 +76,10 @@ module _ (M : Machine) (class : List ℕ) (q a : ℕ) (before : List ℕ) where
 
     pub led-most : (c : ℕ) → c < n → ledOf n after c ≤ x
     led-most c l = omega (arith, d .leds c l, count-most x (ofClass c))
+
+    -- the classes stand as they did
+    pub counted-class : 8 * n ≤ length before → classIn n after ≡ classIn n before
+    counted-class room = part-same n (6 * n) after before (omega arith) (d .long) (λ y l. d .beyond (6 * n + y) (omega arith))
 
     module _ (c : ℕ) (own : c ≡ at class x) (l : x < n) (m : c < n) (room : 6 * n ≤ length before) where
       abbrev noted : List ℕ

@@ -10,7 +10,7 @@ use lib.Dec.{eqb}
 use lib.ListN.{length, take}
 use lib.Seq.{getD-take}
 use Rattle.counting.specs.Lists.{at}
-use Rattle.refining.specs.Lists.{WellFormed, formed}
+use Rattle.refining.specs.Lists.{Split, WellFormed, formed}
 use Rattle.splitting.specs.Work.{lists, Classed}
 
 module _ (n k : ℕ) (class pending : List ℕ) (q : ℕ) (l : q < n) where
@@ -49,12 +49,5 @@ module _ (n k : ℕ) (class pending : List ℕ) (q : ℕ) (l : q < n) where
         formed-waits u = sym (rest ∙ ap (λ (t : Bool). t || eqb (at class q) q) (ne-eqb (at pending q) 0 u))
 
 -- well-formed lists are classed
-pub classed-formed : (n k : ℕ) (class pending : List ℕ) → n ≤ length class → WellFormed n k (lists n class pending) → Classed n class
-classed-formed n k class pending room w = record { room = room; low = low; named = named }
-  where
-    low : (x : ℕ) → x < n → at class x ≤ x
-    low x l = omega (arith, w .low x l, class-at n k class pending x l)
-
-    named : (x : ℕ) → x < n → at class (at class x) ≡ at class x
-    named x l =
-        sym (name-at n k class pending x l (low x l)) ∙ rw (class-at n k class pending x l) at (w .named x l)
+pub classed-formed : (n k : ℕ) (s : Split) → n ≤ length (s .class) → WellFormed n k s → Classed n (s .class)
+classed-formed n k s room w = record { room = room; low = w .low; named = w .named }

@@ -1,4 +1,5 @@
 -- Laws of the splitting in lent memory.
+pub mod Places
 pub mod Columns
 pub mod Unleading
 pub mod Divisions
@@ -11,6 +12,7 @@ pub mod Parting
 pub mod Sharing
 pub mod Goers
 pub mod Renaming
+pub mod Copying
 pub mod Forming
 pub mod Sizing
 pub mod Progress
@@ -19,3 +21,4 @@ pub mod RunUniqueness
 pub mod Pendings
 pub mod StartWays
 pub mod StartUniqueness
+pub mod Demands

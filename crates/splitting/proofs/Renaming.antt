@@ -2,19 +2,21 @@
 use mathlib.Core.Path.{_≡_, refl, sym, ap, subst, _∙_}
 use mathlib.Core.Bool.{Bool, not, _&&_, Bool·beq}
 use mathlib.Core.List.{List}
-use Prim.Native.Nat.{ℕ, _+_, _≤_, _<_}
+use Prim.Native.Nat.{ℕ, _+_, _*_, _≤_, _<_}
 use native.Mathlib.Nat.{not-suc-le-zero}
 use native.Mathlib.Decide.{ℕ-discrete}
 use native.Mathlib.Omega.{arith}
 use borrow.Author.Tests.{le-ltb}
 use lib.Dec.{eqb}
+use lib.ListN.{length}
 use Rattle.counting.specs.Lists.{at}
 use Rattle.counting.specs.Least.{pick, least}
 use Rattle.counting.specs.Counts.{count}
 use Rattle.counting.proofs.Tallies.{count-most}
 use Rattle.automaton.specs.Machine.{Machine}
-use Rattle.splitting.specs.Work.{firstOf, goneOf, renamedOf, leadsTo, goesBy, goer, firstGoer, Classed, Renamed}
+use Rattle.splitting.specs.Work.{classIn, firstOf, goneOf, renamedOf, leadsTo, goesBy, goer, firstGoer, Classed, Renamed}
 use Rattle.splitting.specs.Parts.{Named}
+use Rattle.splitting.proofs.Places.{part-same}
 use Rattle.splitting.proofs.Goers.{first-other, count-other, first-own, count-own, name-own}
 
 module _ (M : Machine) (class : List ℕ) (q a : ℕ) where
@@ -35,6 +37,10 @@ module _ (M : Machine) (class : List ℕ) (q a : ℕ) where
 
     pub gone-small : (c : ℕ) → c < M .size → goneOf (M .size) w c ≤ x
     gone-small c l = omega (arith, r .gones c l, count-most x (goer M class q a c))
+
+    -- the classes stand as they did
+    pub renamed-class : 8 * M .size ≤ length w₀ → classIn (M .size) w ≡ classIn (M .size) w₀
+    renamed-class room = part-same (M .size) (6 * M .size) w w₀ (omega arith) (r .long) (λ y l. r .beyond (6 * M .size + y) (omega arith))
 
     more : (w′ : List ℕ) → x < M .size → Classed (M .size) class → Named (M .size) p x (goesBy M class q a x) w w′ → Renamed M class q a (x + 1) w₀ w′
     more w′ l h d = record {

@@ -9,8 +9,6 @@ use native.Mathlib.Omega.{arith}
 use borrow.Author.Tests.{lt-ltb, le-ltb}
 use lib.Dec.{ltb}
 use lib.ListN.{length}
-use lib.Seq.{length-take-le}
-use Rattle.counting.specs.Lists.{at}
 use Rattle.counting.specs.Least.{pick}
 use Rattle.counting.proofs.Leasts.{least-is}
 use Rattle.automaton.specs.Machine.{Machine}
@@ -18,9 +16,8 @@ use Rattle.refining.specs.Lists.{Split, WellFormed, formed, illFormed}
 use Rattle.refining.specs.Take.{hits, takeBy, dueHits, take as takeOf, entries}
 use Rattle.refining.specs.Run.{step, stepTakes, stepEntries, runLists, runTakes, runEntries}
 use Rattle.refining.proofs.Keeping.{formed-iff}
-use Rattle.refining.proofs.Runs.{run-long}
 use Rattle.lending.specs.Memory.{cleared, written}
-use Rattle.lending.proofs.Memories.{cleared-same, written-is}
+use Rattle.lending.proofs.Memories.{cleared-same}
 use Rattle.table.specs.Answers.{gives, refuses}
 use Rattle.table.specs.Judging.{judged}
 use Rattle.table.specs.Leaving.{left}
@@ -30,9 +27,10 @@ use Rattle.table.specs.declared.answer.Sizes.{Sizes}
 use Rattle.table.proofs.Leavings.{file-refused, file-given, refuses-here, refuses-not}
 use Rattle.table.proofs.Openings.{good-given}
 use Rattle.table.proofs.Handing.{marksIn, nextsIn, machine-is}
-use Rattle.splitting.specs.Work.{lists}
-use Rattle.splitting.specs.Running.{RanBy}
+use Rattle.splitting.specs.Work.{lists, classIn, pendingIn, listsIn}
+use Rattle.splitting.specs.Running.{RanIn, PutIn}
 use Rattle.splitting.specs.RunCall.{allowed, ranFrom, runOf, runLeaves}
+use Rattle.splitting.proofs.Copying.{full-long, full-beyond, full-lists}
 
 pub run-refused : (file : List ℕ) (budget : ℕ) (class pending work : List ℕ) {number place : ℕ} → judged file ≡ refuses number place
     → left (refuses number place) (class ∷ pending ∷ work ∷ []) ≡ runLeaves file budget class pending work
@@ -66,36 +64,38 @@ module _ (n k start : ℕ) (marks nexts : List ℕ) where
   entries-bare zero s = refl
   entries-bare (suc b) s = ap₂ _+_ (step-bare s .2) (entries-bare b (step bare s) ∙ ap (runEntries marked b) (step-bare s .0))
 
-  -- what the takes leave in the slices
-  module _ (budget : ℕ) (class pending class′ pending′ work ready ran : List ℕ) (takes looked : ℕ)
-      (class-room : n ≤ length class) (pending-room : n ≤ length pending)
-      (r : RanBy bare budget class pending class′ pending′ ready ran takes looked)
-      (long : length ready ≡ length work) (beyond : (i : ℕ) → 6 * n ≤ i → at ready i ≡ at work i) where
+  -- what the takes leave in the slices: the lists put in, the takes made on them, and the lists copied out
+  module _ (budget : ℕ) (class pending work mid full ran class′ pending′ : List ℕ) (takes looked : ℕ)
+      (class-room : n ≤ length class) (pending-room : n ≤ length pending) (room : 16 * n ≤ length work)
+      (c : PutIn class (6 * n) n work mid) (p : PutIn pending (7 * n) n mid full)
+      (r : RanIn bare budget full ran takes looked)
+      (class-out : class′ ≡ written (classIn n ran) class) (pending-out : pending′ ≡ written (pendingIn n ran) pending) where
     abbrev s : Split
     s = lists n class pending
 
-    reached : (length (runLists bare budget s .class) ≡ n) × (length (runLists bare budget s .pending) ≡ n)
-    reached = run-long bare budget s (length-take-le n class class-room, length-take-le n pending pending-room)
+    begun : listsIn n full ≡ s
+    begun = full-lists n class pending work mid full class-room pending-room (omega arith) c p
 
-    class-left : class′ ≡ written (runLists bare budget s .class) class
-    class-left =
-        let e : length (runLists bare budget s .class) ≡ n = reached .0 in
-        written-is (runLists bare budget s .class) class class′ (r .classes-long) (omega arith) (λ j l. r .classes j (omega arith)) (λ j l. r .classes-beyond j (omega arith))
+    reached : listsIn n ran ≡ runLists marked budget s
+    reached = r .lists ∙ ap (runLists bare budget) begun ∙ lists-bare budget s
 
-    pending-left : pending′ ≡ written (runLists bare budget s .pending) pending
-    pending-left =
-        let e : length (runLists bare budget s .pending) ≡ n = reached .1 in
-        written-is (runLists bare budget s .pending) pending pending′ (r .pendings-long) (omega arith) (λ j l. r .pendings j (omega arith)) (λ j l. r .pendings-beyond j (omega arith))
+    class-left : class′ ≡ written (runLists marked budget s .class) class
+    class-left = class-out ∙ ap (λ (t : Split). written (t .class) class) reached
+
+    pending-left : pending′ ≡ written (runLists marked budget s .pending) pending
+    pending-left = pending-out ∙ ap (λ (t : Split). written (t .pending) pending) reached
 
     work-left : cleared (16 * n) ran ≡ cleared (16 * n) work
-    work-left = cleared-same (16 * n) ran work (r .work-long ∙ long) (λ j l. r .work-beyond j (omega arith) ∙ beyond j (omega arith))
+    work-left =
+        cleared-same (16 * n) ran work (r .long ∙ full-long n class pending work mid full class-room pending-room (omega arith) c p)
+        (λ j l. r .beyond j (omega arith) ∙ full-beyond n class pending work mid full class-room pending-room (omega arith) c p j (omega arith))
 
     ran-left : left (gives (takes ∷ looked ∷ [])) (class′ ∷ pending′ ∷ cleared (16 * n) ran ∷ []) ≡ ranFrom marked budget s class pending work
     unfolding ranFrom
     ran-left =
         ap₂ left
-        (ap₂ (λ (t e : ℕ). gives (t ∷ e ∷ [])) (r .counts .0 ∙ takes-bare budget s) (r .counts .1 ∙ entries-bare budget s))
-        (ap₂ (λ (cs ps : List ℕ). cs ∷ ps ∷ cleared (16 * n) ran ∷ []) (class-left ∙ ap (λ (t : Split). written (t .class) class) (lists-bare budget s)) (pending-left ∙ ap (λ (t : Split). written (t .pending) pending) (lists-bare budget s))
+        (ap₂ (λ (t e : ℕ). gives (t ∷ e ∷ [])) (r .counts .0 ∙ ap (runTakes bare budget) begun ∙ takes-bare budget s) (r .counts .1 ∙ ap (runEntries bare budget) begun ∙ entries-bare budget s))
+        (ap₂ (λ (cs ps : List ℕ). cs ∷ ps ∷ cleared (16 * n) ran ∷ []) class-left pending-left
         ∙ ap (λ (w : List ℕ). written (runLists marked budget s .class) class ∷ written (runLists marked budget s .pending) pending ∷ w ∷ []) work-left)
 
 pub allowed-most : (budget : ℕ) → allowed budget ≤ 65535
@@ -153,14 +153,16 @@ module _ (file : List ℕ) (z : Sizes) (g : Good file z) (budget : ℕ) (class p
           ∙ refuses-not 12 (z .states) (class ∷ pending ∷ cleared (16 * z .states) work ∷ []) _ wide
           ∙ refuses-here 13 (illFormed (z .states) (z .signs) (lists (z .states) class pending)) (class ∷ pending ∷ work ∷ []) _ (lt-ltb _ (z .states) (omega arith)))
 
-      pub run-made : z .states ≤ illFormed (z .states) (z .signs) (lists (z .states) class pending) → (class′ pending′ ready ran : List ℕ) (takes looked : ℕ)
-          → RanBy (machineIn (z .states) (z .signs) (z .start) [] (nextsIn file z)) (allowed budget) class pending class′ pending′ ready ran takes looked
-          → length ready ≡ length work
-          → ((i : ℕ) → 6 * z .states ≤ i → at ready i ≡ at work i)
+      pub run-made : z .states ≤ illFormed (z .states) (z .signs) (lists (z .states) class pending) → (mid full ran class′ pending′ : List ℕ) (takes looked : ℕ)
+          → PutIn class (6 * z .states) (z .states) work mid
+          → PutIn pending (7 * z .states) (z .states) mid full
+          → RanIn (machineIn (z .states) (z .signs) (z .start) [] (nextsIn file z)) (allowed budget) full ran takes looked
+          → class′ ≡ written (classIn (z .states) ran) class
+          → pending′ ≡ written (pendingIn (z .states) ran) pending
           → left (gives (takes ∷ looked ∷ [])) (class′ ∷ pending′ ∷ cleared (16 * z .states) ran ∷ []) ≡ runLeaves file budget class pending work
       unfolding runOf
-      run-made l class′ pending′ ready ran takes looked r long beyond =
-          ran-left (z .states) (z .signs) (z .start) (marksIn file z) (nextsIn file z) (allowed budget) class pending class′ pending′ work ready ran takes looked class-room pending-room r long beyond
+      run-made l mid full ran class′ pending′ takes looked c p r e f =
+          ran-left (z .states) (z .signs) (z .start) (marksIn file z) (nextsIn file z) (allowed budget) class pending work mid full ran class′ pending′ takes looked class-room pending-room room c p r e f
           ∙ sym
           (given
           ∙ refuses-not 11 (16 * z .states) (class ∷ pending ∷ work ∷ []) _ (le-ltb (length work) (16 * z .states) room)

@@ -13,7 +13,8 @@ use Rattle.counting.specs.Counts.{count}
 use Rattle.counting.proofs.Tallies.{count-most}
 use Rattle.lending.specs.Memory.{cleared}
 use Rattle.lending.proofs.Memories.{cleared-at, cleared-beyond, cleared-length}
-use Rattle.splitting.specs.Work.{sizeOf, Ready}
+use Rattle.splitting.specs.Work.{sizeOf, classIn, Ready}
+use Rattle.splitting.proofs.Places.{part-same}
 use Rattle.splitting.proofs.Columns.{count-hit, count-miss}
 
 -- The first x states are counted, each in its class.
@@ -53,20 +54,36 @@ module _ (n : ℕ) (class before : List ℕ) where
         ]
 
 -- five columns cleared, then the classes counted
-module _ (n : ℕ) (class work after : List ℕ) (room : 16 * n ≤ length work) (long : length after ≡ length (cleared (5 * n) work))
-    (sizes : (c : ℕ) → c < n → sizeOf after c ≡ count n (λ x. eqb (at class x) c))
-    (beyond : (i : ℕ) → n ≤ i → at after i ≡ at (cleared (5 * n) work) i) where
-  pub ready-made : Ready n class after
-  ready-made = record {
-    room = omega (arith, long, cleared-length (5 * n) work (omega arith));
-    sizes = sizes;
-    firsts = λ c l. clear (n + c) (omega arith) (omega arith);
-    gones = λ c l. clear (2 * n + c) (omega arith) (omega arith);
-    leds = λ c l. clear (4 * n + c) (omega arith) (omega arith);
-  }
-    where
-      clear : (i : ℕ) → n ≤ i → i < 5 * n → at after i ≡ 0
-      clear i l m = beyond i l ∙ cleared-at (5 * n) work i m
+module _ (n : ℕ) (work mid : List ℕ) (room : 8 * n ≤ length work) (e : mid ≡ cleared (5 * n) work) where
+  pub mid-long : length mid ≡ length work
+  mid-long = ap length e ∙ cleared-length (5 * n) work (omega arith)
 
-  pub ready-beyond : (i : ℕ) → 6 * n ≤ i → at after i ≡ at work i
-  ready-beyond i l = beyond i (omega arith) ∙ cleared-beyond (5 * n) work i (omega arith)
+  mid-beyond : (i : ℕ) → 5 * n ≤ i → at mid i ≡ at work i
+  mid-beyond i l = ap (λ (w : List ℕ). at w i) e ∙ cleared-beyond (5 * n) work i l
+
+  pub mid-clear : (i : ℕ) → i < 5 * n → at mid i ≡ 0
+  mid-clear i l = ap (λ (w : List ℕ). at w i) e ∙ cleared-at (5 * n) work i l
+
+  pub mid-classes : classIn n mid ≡ classIn n work
+  mid-classes = part-same n (6 * n) mid work (omega arith) mid-long (λ x l. mid-beyond (6 * n + x) (omega arith))
+
+  module _ (after : List ℕ) (long : length after ≡ length mid)
+      (sizes : (c : ℕ) → c < n → sizeOf after c ≡ count n (λ x. eqb (at (classIn n mid) x) c))
+      (beyond : (i : ℕ) → n ≤ i → at after i ≡ at mid i) where
+    pub ready-made : Ready n after
+    ready-made = record {
+      room = omega (arith, long, mid-long);
+      sizes = λ c l. sizes c l ∙ ap (λ (class : List ℕ). count n (λ x. eqb (at class x) c)) (sym classes);
+      firsts = λ c l. clear (n + c) (omega arith) (omega arith);
+      gones = λ c l. clear (2 * n + c) (omega arith) (omega arith);
+      leds = λ c l. clear (4 * n + c) (omega arith) (omega arith);
+    }
+      where
+        clear : (i : ℕ) → n ≤ i → i < 5 * n → at after i ≡ 0
+        clear i l m = beyond i l ∙ mid-clear i m
+
+        classes : classIn n after ≡ classIn n mid
+        classes = part-same n (6 * n) after mid (omega (arith, mid-long)) long (λ x l. beyond (6 * n + x) (omega arith))
+
+    pub ready-beyond : (i : ℕ) → 6 * n ≤ i → at after i ≡ at work i
+    ready-beyond i l = beyond i (omega arith) ∙ mid-beyond i (omega arith)

@@ -1,12 +1,12 @@
--- A take in lent memory. Besides the class and pending lists it uses the first 6 × n numbers of the work slice, n each: the size of each class; the first state that
--- goes from it; how many go; the new name of each state; how many states of each class lead into the class taken; and the classes of those that do.
+-- A take in lent memory. It uses the first 8 × n numbers of the work slice, n each: the size of each class; the first state that goes from it; how many go; the new
+-- name of each state; how many states of each class lead into the class taken; the classes of those that do; the class of each state; and its pending.
 use mathlib.Core.Path.{_≡_}
 use mathlib.Core.Logic.{_≢_}
 use mathlib.Core.Bool.{Bool, not, _&&_, Bool·beq}
 use mathlib.Core.List.{List}
 use Prim.Native.Nat.{ℕ, _+_, _*_, _≤_, _<_}
 use lib.Dec.{eqb, ltb}
-use lib.ListN.{length, take}
+use lib.ListN.{length, take, drop}
 use Rattle.counting.specs.Lists.{at}
 use Rattle.counting.specs.Least.{pick, least}
 use Rattle.counting.specs.Counts.{any, count}
@@ -33,6 +33,22 @@ ledOf n work c = at work (4 * n + c)
 abbrev pub touchedOf : ℕ → List ℕ → ℕ → ℕ
 touchedOf n work j = at work (5 * n + j)
 
+abbrev pub classOf : ℕ → List ℕ → ℕ → ℕ
+classOf n work x = at work (6 * n + x)
+
+abbrev pub pendingOf : ℕ → List ℕ → ℕ → ℕ
+pendingOf n work x = at work (7 * n + x)
+
+-- the two lists that the takes work on
+abbrev pub classIn : ℕ → List ℕ → List ℕ
+classIn n work = take n (drop (6 * n) work)
+
+abbrev pub pendingIn : ℕ → List ℕ → List ℕ
+pendingIn n work = take n (drop (7 * n) work)
+
+abbrev pub listsIn : ℕ → List ℕ → Split
+listsIn n work = record { class = classIn n work; pending = pendingIn n work }
+
 -- the lists of the first n numbers of each slice
 abbrev pub lists : ℕ → List ℕ → List ℕ → Split
 lists n class pending = record { class = take n class; pending = take n pending }
@@ -56,9 +72,9 @@ pub record Classed (n : ℕ) (class : List ℕ) : Type 0 where
   pub named : (x : ℕ) → x < n → at class (at class x) ≡ at class x
 
 -- Between takes: the size of each class, and zeros where a take counts.
-pub record Ready (n : ℕ) (class work : List ℕ) : Type 0 where
-  pub room : 16 * n ≤ length work
-  pub sizes : (c : ℕ) → c < n → sizeOf work c ≡ count n (λ x. eqb (at class x) c)
+pub record Ready (n : ℕ) (work : List ℕ) : Type 0 where
+  pub room : 8 * n ≤ length work
+  pub sizes : (c : ℕ) → c < n → sizeOf work c ≡ count n (λ x. eqb (at (classIn n work) x) c)
   pub firsts : (c : ℕ) → c < n → firstOf n work c ≡ 0
   pub gones : (c : ℕ) → c < n → goneOf n work c ≡ 0
   pub leds : (c : ℕ) → c < n → ledOf n work c ≡ 0
@@ -98,15 +114,10 @@ pub record Renamed (M : Machine) (class : List ℕ) (q a x : ℕ) (before after 
   pub renamed : (y : ℕ) → y < x → renamedOf (M .size) after y ≡ pick (goesBy M class q a y) (least (M .size) (goer M class q a (at class y))) (at class y)
   pub beyond : (i : ℕ) → 4 * M .size ≤ i → at after i ≡ at before i
 
--- What a take leaves: the lists of the published take, the entries looked at, all beyond as it was, and the work slice ready for the next.
-pub record Taken (M : Machine) (class pending class′ pending′ work work′ : List ℕ) (looked : ℕ) : Type 0 where
-  pub classes-long : length class′ ≡ length class
-  pub pendings-long : length pending′ ≡ length pending
-  pub work-long : length work′ ≡ length work
-  pub classes : (x : ℕ) → x < M .size → at class′ x ≡ at (takeOf M (lists (M .size) class pending) .class) x
-  pub pendings : (x : ℕ) → x < M .size → at pending′ x ≡ at (takeOf M (lists (M .size) class pending) .pending) x
-  pub classes-beyond : (i : ℕ) → M .size ≤ i → at class′ i ≡ at class i
-  pub pendings-beyond : (i : ℕ) → M .size ≤ i → at pending′ i ≡ at pending i
-  pub looks : looked ≡ entries M (lists (M .size) class pending)
-  pub ready : Ready (M .size) class′ work′
-  pub work-beyond : (i : ℕ) → 6 * M .size ≤ i → at work′ i ≡ at work i
+-- What a take leaves: the lists of the published take, the entries looked at, the work slice ready for the next, and all beyond as it was.
+pub record Taken (M : Machine) (before after : List ℕ) (looked : ℕ) : Type 0 where
+  pub long : length after ≡ length before
+  pub lists : listsIn (M .size) after ≡ takeOf M (listsIn (M .size) before)
+  pub looks : looked ≡ entries M (listsIn (M .size) before)
+  pub ready : Ready (M .size) after
+  pub beyond : (i : ℕ) → 8 * M .size ≤ i → at after i ≡ at before i

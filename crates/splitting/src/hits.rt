@@ -1,23 +1,31 @@
 // The first pass of a take, over its sign's column: the states that lead into the class taken, counted by class; and whether a class is split.
 ghost use mathlib.Core.Path.{_≡_};
 ghost use mathlib.Core.List.{[]};
-ghost use mathlib.Core.Bool.{_||_};
 ghost use Prim.Native.Nat.{ℕ, _+_, _*_, _<_, _≤_};
-ghost use lib.ListN.{length, set};
+ghost use lib.ListN.{length, take, drop, set};
 ghost use Rattle.table.specs.Encoding.{machineIn, Held};
-ghost use Rattle.splitting.specs.Work.{leadsTo, ledOf, touchedOf, Classed, Counted, Unled};
+ghost use Rattle.splitting.specs.Work.{classIn, leadsTo, ledOf, touchedOf, Classed, Counted, Unled};
+use lending::either;
 use lending::number_at;
 use table::answer::Sizes;
 use table::fields::next_of;
 
-// Whether the next state of a state under a sign lies in a class.
-pub fn leads(nexts: &[u8], sizes: Sizes, class: &[u16], x: usize, a: usize, q: usize) -> bool
+// Whether the next state of a state under a sign lies in a class; the classes of the states stand from a place on.
+pub fn leads(
+    nexts: &[u8],
+    sizes: Sizes,
+    work: &[u16],
+    place: usize,
+    x: usize,
+    a: usize,
+    q: usize,
+) -> bool
     requires held { ⌜ Held (sizes .states) (sizes .signs) (sizes .start) (now nexts) ⌝ }
-    requires room { ⌜ sizes .states ≤ length (now class) ⌝ }
+    requires room { ⌜ (place + sizes .states ≤ length (now work)) × (place ≤ 65535) ⌝ }
     requires state { ⌜ (x < sizes .states) × (a < sizes .signs) ⌝ }
-    ensures { λ t. ⌜ t ≡ leadsTo (machineIn (sizes .states) (sizes .signs) (sizes .start) [] (now (nexts .entry))) (now (class .entry)) q a x ⌝ }
+    ensures { λ t. ⌜ t ≡ leadsTo (machineIn (sizes .states) (sizes .signs) (sizes .start) [] (now (nexts .entry))) (take (sizes .states) (drop place (now (work .entry)))) q a x ⌝ }
 {
-    number_at(class, next_of(nexts, sizes.signs, x, a)) == q
+    number_at(work, place + next_of(nexts, sizes.signs, x, a)) == q
 }
 
 // Counts one state of class c that leads into the class taken, and notes its class as the one at a place among those touched.
@@ -34,38 +42,26 @@ fn note_hit(work: &mut [u16], n: usize, c: usize, place: usize)
 }
 
 // Looks at the next state of every state under a sign; gives how many lie in the class taken.
-pub fn count_hits(
-    nexts: &[u8],
-    sizes: Sizes,
-    class: &[u16],
-    work: &mut [u16],
-    q: usize,
-    a: usize,
-) -> usize
+pub fn count_hits(nexts: &[u8], sizes: Sizes, work: &mut [u16], q: usize, a: usize) -> usize
     requires held { ⌜ Held (sizes .states) (sizes .signs) (sizes .start) (now nexts) ⌝ }
-    requires classed { ⌜ Classed (sizes .states) (now class) ⌝ }
+    requires classed { ⌜ Classed (sizes .states) (classIn (sizes .states) (now work)) ⌝ }
     requires sign { ⌜ a < sizes .signs ⌝ }
-    requires room { ⌜ 6 * sizes .states ≤ length (now work) ⌝ }
+    requires room { ⌜ 8 * sizes .states ≤ length (now work) ⌝ }
     requires unled { ⌜ ((c : ℕ) → c < sizes .states → ledOf (sizes .states) (now work) c ≡ 0) ⌝ }
-    ensures { λ r. ⌜ Counted (machineIn (sizes .states) (sizes .signs) (sizes .start) [] (now (nexts .entry))) (now (class .entry)) q a (sizes .states) (now (work .entry)) (now (work .exit)) r ⌝ }
+    ensures { λ r. ⌜ Counted (machineIn (sizes .states) (sizes .signs) (sizes .start) [] (now (nexts .entry))) (classIn (sizes .states) (now (work .entry))) q a (sizes .states) (now (work .entry)) (now (work .exit)) r ⌝ }
 {
     let n = sizes.states;
+    let classes = 6 * n;
     let mut entries = 0;
     let mut x = 0;
     while x < n {
-        if leads(nexts, sizes, class, x, a, q) {
-            note_hit(work, n, number_at(class, x), entries);
+        if leads(nexts, sizes, work, classes, x, a, q) {
+            note_hit(work, n, number_at(work, classes + x), entries);
             entries += 1;
         }
         x += 1;
     }
     entries
-}
-
-fn either(a: bool, b: bool) -> bool
-    ensures { λ r. ⌜ r ≡ (a || b) ⌝ }
-{
-    if a { true } else { b }
 }
 
 // Sets the counts of the touched classes to 0 again; gives whether some class has states that lead into the class taken, and others.

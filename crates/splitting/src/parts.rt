@@ -1,23 +1,16 @@
 // The passes of a take that splits a class: new names, the pending and sizes of the parts, and the names taken over.
 ghost use mathlib.Core.Path.{_≡_};
-ghost use mathlib.Core.List.{List, []};
+ghost use mathlib.Core.List.{[]};
 ghost use Prim.Native.Nat.{ℕ, _+_, _*_, _<_, _≤_};
 ghost use lib.ListN.{length};
 ghost use Rattle.counting.specs.Lists.{at};
-ghost use Rattle.counting.specs.Least.{pick};
 ghost use Rattle.table.specs.Encoding.{machineIn, Held};
-ghost use Rattle.splitting.specs.Work.{firstOf, goneOf, renamedOf, Classed, Renamed};
-ghost use Rattle.splitting.specs.Parts.{Named, Shared, Parted};
+ghost use Rattle.splitting.specs.Work.{classIn, firstOf, goneOf, Classed, Renamed};
+ghost use Rattle.splitting.specs.Parts.{Named, Parted, Shared, Adopted};
 use crate::hits::leads;
 use lending::number_at;
+use lending::one_of;
 use table::answer::Sizes;
-
-// One of two numbers, by a test.
-fn one_of(test: bool, x: usize, y: usize) -> usize
-    ensures { λ r. ⌜ r ≡ pick test x y ⌝ }
-{
-    if test { x } else { y }
-}
 
 // Names a state of class c anew: where it goes, by the first of its class that goes.
 fn name_anew(work: &mut [u16], n: usize, c: usize, x: usize, goes: bool)
@@ -41,31 +34,32 @@ fn name_anew(work: &mut [u16], n: usize, c: usize, x: usize, goes: bool)
 }
 
 // Names every state anew, against the classes as they stand.
-pub fn rename(nexts: &[u8], sizes: Sizes, class: &[u16], work: &mut [u16], q: usize, a: usize)
+pub fn rename(nexts: &[u8], sizes: Sizes, work: &mut [u16], q: usize, a: usize)
     requires held { ⌜ Held (sizes .states) (sizes .signs) (sizes .start) (now nexts) ⌝ }
-    requires classed { ⌜ Classed (sizes .states) (now class) ⌝ }
+    requires classed { ⌜ Classed (sizes .states) (classIn (sizes .states) (now work)) ⌝ }
     requires sign { ⌜ a < sizes .signs ⌝ }
-    requires room { ⌜ 6 * sizes .states ≤ length (now work) ⌝ }
+    requires room { ⌜ 8 * sizes .states ≤ length (now work) ⌝ }
     requires idle { ⌜ ((c : ℕ) → c < sizes .states → (firstOf (sizes .states) (now work) c ≡ 0) × (goneOf (sizes .states) (now work) c ≡ 0)) ⌝ }
-    ensures { λ _. ⌜ Renamed (machineIn (sizes .states) (sizes .signs) (sizes .start) [] (now (nexts .entry))) (now (class .entry)) q a (sizes .states) (now (work .entry)) (now (work .exit)) ⌝ }
+    ensures { λ _. ⌜ Renamed (machineIn (sizes .states) (sizes .signs) (sizes .start) [] (now (nexts .entry))) (classIn (sizes .states) (now (work .entry))) q a (sizes .states) (now (work .entry)) (now (work .exit)) ⌝ }
 {
     let n = sizes.states;
+    let classes = 6 * n;
     let mut x = 0;
     while x < n {
-        let c = number_at(class, x);
-        let own = leads(nexts, sizes, class, x, a, q);
-        let name = leads(nexts, sizes, class, c, a, q);
+        let c = number_at(work, classes + x);
+        let own = leads(nexts, sizes, work, classes, x, a, q);
+        let name = leads(nexts, sizes, work, classes, c, a, q);
         name_anew(work, n, c, x, own != name);
         x += 1;
     }
 }
 
 // Shares the pending and the size of a class among its two parts, where it is split.
-fn share_class(pending: &mut [u16], work: &mut [u16], n: usize, signs: usize, p: usize)
-    requires room { ⌜ (6 * n ≤ length (now work)) × (n ≤ length (now pending)) × (n ≤ 1024) × (signs ≤ 64) ⌝ }
+fn share_class(work: &mut [u16], n: usize, signs: usize, p: usize)
+    requires room { ⌜ (8 * n ≤ length (now work)) × (n ≤ 1024) × (signs ≤ 64) ⌝ }
     requires within { ⌜ (p < n) × (firstOf n (now work) p < n) ⌝ }
     requires part { ⌜ ((firstOf n (now work) p ≡ 0 → ⊥) → goneOf n (now work) p ≤ at (now work) p) ⌝ }
-    ensures { λ _. ⌜ Parted n signs p (now (pending .entry)) (now (pending .exit)) (now (work .entry)) (now (work .exit)) ⌝ }
+    ensures { λ _. ⌜ Parted n signs p (now (work .entry)) (now (work .exit)) ⌝ }
 {
     let first = n + p;
     let r = number_at(work, first);
@@ -75,10 +69,12 @@ fn share_class(pending: &mut [u16], work: &mut [u16], n: usize, signs: usize, p:
     let left = 2 * n + p;
     let gone = number_at(work, left);
     let kept = number_at(work, p) - gone;
-    let old = number_at(pending, p);
+    let waits = 7 * n + p;
+    let new = 7 * n + r;
+    let old = number_at(work, waits);
     let smaller = kept <= gone;
-    pending[r] = one_of(smaller, old, signs) as u16;
-    pending[p] = one_of(smaller, signs, old) as u16;
+    work[new] = one_of(smaller, old, signs) as u16;
+    work[waits] = one_of(smaller, signs, old) as u16;
     work[r] = gone as u16;
     work[p] = kept as u16;
     work[first] = 0;
@@ -86,31 +82,30 @@ fn share_class(pending: &mut [u16], work: &mut [u16], n: usize, signs: usize, p:
 }
 
 // Shares the pending and the sizes of all classes that are split.
-pub fn share(pending: &mut [u16], work: &mut [u16], n: usize, signs: usize)
-    requires room { ⌜ (6 * n ≤ length (now work)) × (n ≤ length (now pending)) × (n ≤ 1024) × (signs ≤ 64) ⌝ }
+pub fn share(work: &mut [u16], n: usize, signs: usize)
+    requires room { ⌜ (8 * n ≤ length (now work)) × (n ≤ 1024) × (signs ≤ 64) ⌝ }
     requires within { ⌜ ((p : ℕ) → p < n → (firstOf n (now work) p < n) × (goneOf n (now work) p ≤ at (now work) p)) ⌝ }
     requires apart { ⌜ ((p : ℕ) → p < n → (firstOf n (now work) p ≡ 0 → ⊥) → (p < firstOf n (now work) p) × (firstOf n (now work) (firstOf n (now work) p) ≡ 0)) ⌝ }
     requires single { ⌜ ((p r : ℕ) → p < n → r < n → (firstOf n (now work) p ≡ 0 → ⊥) → firstOf n (now work) p ≡ firstOf n (now work) r → p ≡ r) ⌝ }
-    ensures { λ _. ⌜ Shared n signs n (now (pending .entry)) (now (pending .exit)) (now (work .entry)) (now (work .exit)) ⌝ }
+    ensures { λ _. ⌜ Shared n signs n (now (work .entry)) (now (work .exit)) ⌝ }
 {
     let mut p = 0;
     while p < n {
-        share_class(pending, work, n, signs, p);
+        share_class(work, n, signs, p);
         p += 1;
     }
 }
 
 // Takes the new names over.
-pub fn adopt(class: &mut [u16], work: &[u16], n: usize)
-    requires { ⌜ (n ≤ length (now class)) × (6 * n ≤ length (now work)) × (n ≤ 1024) ⌝ }
-    ensures long { λ _. ⌜ length (now (class .exit)) ≡ length (now (class .entry)) ⌝ }
-    ensures names { λ _. ⌜ ((x : ℕ) → x < n → at (now (class .exit)) x ≡ renamedOf n (now (work .entry)) x) ⌝ }
-    ensures beyond { λ _. ⌜ ((i : ℕ) → n ≤ i → at (now (class .exit)) i ≡ at (now (class .entry)) i) ⌝ }
+pub fn adopt(work: &mut [u16], n: usize)
+    requires { ⌜ (8 * n ≤ length (now work)) × (n ≤ 1024) ⌝ }
+    ensures { λ _. ⌜ Adopted n n (now (work .entry)) (now (work .exit)) ⌝ }
 {
     let mut x = 0;
     while x < n {
-        let place = 3 * n + x;
-        class[x] = work[place];
+        let name = 3 * n + x;
+        let class = 6 * n + x;
+        work[class] = work[name];
         x += 1;
     }
 }

@@ -123,6 +123,18 @@ module _ (M : Machine) where
     unfolding encode
     encoded-bytes = every-append (every-append first-bytes second-bytes) third-bytes .at
 
+-- machines that agree are written as one file
+pub encode-agree : {M N : Machine} → Agree M N → encode M ≡ encode N
+unfolding encode
+encode-agree {M} {N} a =
+    ap₂ (λ (f g : List ℕ). f ++ g)
+    (ap₂ (λ (f g : List ℕ). fieldOf 1 f ++ fieldOf 2 g)
+    (ap₂ _++_ (ap₂ (λ (n k : ℕ). pair n ++ pair k) (a .size) (a .signs)) (ap pair (a .start)))
+    (tab-cong (M .size) (a .kind) ∙ ap (λ (n : ℕ). tab n (N .kind)) (a .size)))
+    (ap (fieldOf 3)
+    (flat-cong (M .size) (λ q h. flat-cong (M .signs) (λ b l. ap pair (a .next q b h l)))
+    ∙ ap₂ (λ (n k : ℕ). grid n k (N .next)) (a .size) (a .signs)))
+
 -- the machine of a right file is one that a file can hold
 pub machine-in-range : (file : List ℕ) → Right file → MachineInRange (machineOf file)
 machine-in-range file r =

@@ -1,23 +1,22 @@
 -- The ways out of telling two states apart, each with its facts.
-use mathlib.Core.Path.{_≡_, refl, sym, ap, ap₂, subst, _∙_}
+use mathlib.Core.Path.{_≡_, refl, sym, ap, subst, _∙_}
 use mathlib.Core.Logic.{_≢_}
 use mathlib.Core.List.{List, [], _∷_}
 use Prim.Native.Nat.{ℕ, _*_, _≤_, _<_}
 use native.Mathlib.Omega.{arith}
 use borrow.Author.Tests.{lt-ltb, le-ltb, le-leb, lt-leb}
-use lib.Dec.{ltb, leb}
 use lib.ListN.{length}
 use Rattle.counting.specs.Lists.{at}
 use Rattle.counting.specs.Least.{pick}
 use Rattle.automaton.specs.Machine.{Machine, Lawful}
 use Rattle.automaton.specs.Layers.{layer, rounds, classes}
-use Rattle.automaton.specs.Telling.{Telling, alike, apart, telling, depth, wordFrom}
+use Rattle.automaton.specs.Telling.{Telling, apart, telling, depth, wordFrom}
 use Rattle.automaton.proofs.Settling.{classes-same}
 use Rattle.automaton.proofs.Tellings.{depth-differs, word-tells, telling-alike}
 use Rattle.lending.specs.Memory.{cleared, written}
 use Rattle.table.specs.Answers.{gives, refuses}
 use Rattle.table.specs.Judging.{judged}
-use Rattle.table.specs.Leaving.{Left, left}
+use Rattle.table.specs.Leaving.{left}
 use Rattle.table.specs.Encoding.{machineIn}
 use Rattle.table.specs.Accepted.{Good}
 use Rattle.table.specs.declared.answer.Sizes.{Sizes}

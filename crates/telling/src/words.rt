@@ -29,7 +29,7 @@ pub enum Parting {
     Refused(Refusal),
 }
 
-// Finds the word by the layers, in the first 5 × n numbers of the work slice.
+// Finds the word by the layers, in the first 6 × n numbers of the work slice.
 fn find_word(
     marks: &[u8],
     nexts: &[u8],
@@ -41,10 +41,10 @@ fn find_word(
 ) -> Parting
     requires marked { ⌜ (length (now marks) ≡ sizes .states) × ((q : ℕ) → q < sizes .states → at (now marks) q < 2) ⌝ }
     requires held { ⌜ Held (sizes .states) (sizes .signs) (sizes .start) (now nexts) ⌝ }
-    requires room { ⌜ 5 * sizes .states ≤ length (now work) ⌝ }
+    requires room { ⌜ 6 * sizes .states ≤ length (now work) ⌝ }
     requires states { ⌜ (p < sizes .states) × (q < sizes .states) ⌝ }
     ensures said { λ r. ⌜ left (told r) (cleared (16 * sizes .states) (now (work .entry)) ∷ now (word .exit) ∷ []) ≡ spoken (telling (machineIn (sizes .states) (sizes .signs) (sizes .start) (now (marks .entry)) (now (nexts .entry))) p q) (cleared (16 * sizes .states) (now (work .entry))) (now (word .entry)) ⌝ }
-    ensures beyond { λ _. ⌜ (length (now (work .exit)) ≡ length (now (work .entry))) × ((i : ℕ) → 5 * sizes .states ≤ i → at (now (work .exit)) i ≡ at (now (work .entry)) i) ⌝ }
+    ensures beyond { λ _. ⌜ (length (now (work .exit)) ≡ length (now (work .entry))) × ((i : ℕ) → 6 * sizes .states ≤ i → at (now (work .exit)) i ≡ at (now (work .entry)) i) ⌝ }
 {
     let n = sizes.states;
     find_classes(marks, nexts, sizes, work);

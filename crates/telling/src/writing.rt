@@ -1,5 +1,4 @@
 // The telling word, sign by sign: each the least whose next states part one layer before.
-ghost use mathlib.Core.Path.{_≡_};
 ghost use Prim.Native.Nat.{_*_, _<_, _≤_};
 ghost use lib.ListN.{length};
 ghost use Rattle.table.specs.Encoding.{Held};

@@ -28,14 +28,14 @@ loop-holds c = (omega arith, first-named-none _ _, nothing-least (now (c .before
 mark-of-requires : tie.Need-mark-of-requires Inv-loop μ-loop
 mark-of-requires c κs = omega (arith, c .loop-test .taken, c .before .before .before .before .pre .0 .0)
 
-either-of-requires : tie.Need-either-of-requires Inv-loop μ-loop
-either-of-requires c κs = search needs
+one-of-requires : tie.Need-one-of-requires Inv-loop μ-loop
+one-of-requires c κs = search needs
 
 cast-names : tie.Need-cast-names Inv-loop μ-loop
 cast-names c =
     let l = c .before .before .before .loop in
     let s = either-small (eqb (c .before .mark-of .result) 0) (l .q) (l .zero) (l .one) (l .inv .2 .within) (l .inv .3 .within) in
-    omega (arith, c .either-of .ensures, s, c .before .before .loop-test .taken, c .before .before .before .before .before .before .pre .1 .1)
+    omega (arith, c .one-of .ensures, s, c .before .before .loop-test .taken, c .before .before .before .before .before .before .pre .1 .1)
 
 mul-names : tie.Need-mul-names Inv-loop μ-loop
 mul-names c = omega (arith, c .before .before .before .before .before .before .pre .1 .1, c .before .before .loop-test .taken)
@@ -64,8 +64,8 @@ loop-again c =
     let m = c .before .before .before .mark-of in
     let two = b .pre .0 .1 (l .q) t in (
       omega (arith, t),
-      first-named-more (l .q) (c .before .before .either-of .result) marks (now (b .args .names)) (l .names) (omega (arith, t, l .inv .1 .long, b .pre .1 .0))
-          (c .before .before .either-of .ensures ∙ ap (λ (x : ℕ). pick (eqb x 0) (l .zero) (l .one)) (m .ensures) ∙ first-name (l .q) (l .zero) (l .one) marks two (l .inv .2) (l .inv .3)) (l .inv .1),
+      first-named-more (l .q) (c .before .before .one-of .result) marks (now (b .args .names)) (l .names) (omega (arith, t, l .inv .1 .long, b .pre .1 .0))
+          (c .before .before .one-of .ensures ∙ ap (λ (x : ℕ). pick (eqb x 0) (l .zero) (l .one)) (m .ensures) ∙ first-name (l .q) (l .zero) (l .one) marks two (l .inv .2) (l .inv .3)) (l .inv .1),
       subst (λ (x : ℕ). IsLeast (l .q + 1) (has marks 0) x) (sym (c .before .past .ensures))
           (past-least (l .q) 0 (l .zero) marks (eqb (m .result) 0) (ap (λ (x : ℕ). eqb x 0) (sym (m .ensures))) (l .inv .2)),
       subst (λ (x : ℕ). IsLeast (l .q + 1) (has marks 1) x) (sym (c .past2 .ensures))
@@ -90,7 +90,7 @@ mark-names-spec =
     μ-loop
     loop-holds
     mark-of-requires
-    either-of-requires
+    one-of-requires
     cast-names
     mul-names
     slice-write-names

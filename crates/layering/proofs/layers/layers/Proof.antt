@@ -1,6 +1,6 @@
 -- `layering::layers::layers` meets its contract: each `return` is one of the ways out of the layered call.
 -- Assumes nothing.
-use mathlib.Core.Path.{_≡_, sym, ap, ap₂, subst, subst₂, _∙_}
+use mathlib.Core.Path.{sym, ap, ap₂, subst, subst₂, _∙_}
 use mathlib.Core.List.{List, [], _∷_}
 use Prim.Native.Nat.{ℕ, _<_}
 use denote.Ref.{now}
@@ -11,7 +11,6 @@ use Rattle.table.specs.Leaving.{left}
 use Rattle.table.specs.Encoding.{machineIn, Held}
 use Rattle.table.specs.Accepted.{Good}
 use Rattle.table.specs.declared.answer.Refusal.{Refusal}
-use Rattle.table.specs.declared.answer.Sizes.{Sizes}
 use Rattle.table.proofs.Openings.{good}
 use Rattle.table.proofs.Handing.{marks-handed, nexts-handed, held, marks-long, marks-small}
 use Rattle.layering.specs.Layered.{Settled}

@@ -6,7 +6,6 @@ use denote.Ref.{now}
 use lib.ListN.{set}
 use Rattle.counting.specs.Lists.{at}
 use Rattle.layering.proofs.Copying.{Copied, copied-none, copied-more, copied-all, names-most}
-use borrow.Author.Needs.{needs}
 use native.Mathlib.Omega.{arith}
 use Rattle.layering.proofs.layers.write_names.Statement.{statement}
 use Rattle.layering.proofs.layers.write_names.Tie as tie

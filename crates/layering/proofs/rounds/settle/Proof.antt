@@ -1,4 +1,4 @@
--- `layering::rounds::settle` meets its contract. The loop's invariant: the work slice holds layer i, and all beyond the first 5 × n numbers is as it was.
+-- `layering::rounds::settle` meets its contract. The loop's invariant: the work slice holds layer i, and all beyond the first 6 × n numbers is as it was.
 -- Assumes nothing.
 use Prim.Native.Nat.{ℕ, _*_, _≤_, _-_}
 use mathlib.Core.Path.{_≡_, refl, _∙_}
@@ -18,7 +18,7 @@ abbrev Inv-loop : tie.InvT-loop
 Inv-loop nexts sizes work₀ n i₀ work i =
     (length work ≡ length work₀)
     × InLayer (machineIn (sizes .states) (sizes .signs) (sizes .start) (take (sizes .states) work₀) nexts) i work
-    × ((j : ℕ) → 5 * sizes .states ≤ j → at work j ≡ at work₀ j)
+    × ((j : ℕ) → 6 * sizes .states ≤ j → at work j ≡ at work₀ j)
 
 abbrev μ-loop : tie.MeasureT-loop
 μ-loop nexts sizes work₀ n i₀ work i = rounds (machineIn (sizes .states) (sizes .signs) (sizes .start) (take (sizes .states) work₀) nexts) - i

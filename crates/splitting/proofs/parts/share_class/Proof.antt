@@ -1,7 +1,8 @@
 -- `splitting::parts::share_class` meets its contract: the stores leave the class shared among its parts.
 -- Assumes nothing.
 use Prim.Native.Nat.{_-_}
-use mathlib.Core.Path.{sym, _∙_}
+use mathlib.Core.Path.{refl, sym, _∙_}
+use mathlib.Core.Bool.{Bool}
 use native.Mathlib.Omega.{arith}
 use borrow.Author.Needs.{needs}
 use denote.Ref.{now}
@@ -11,6 +12,17 @@ use Rattle.splitting.proofs.Anew.{pick-small}
 use Rattle.splitting.proofs.Parting.{parted-whole, parted-split}
 use Rattle.splitting.proofs.parts.share_class.Statement.{statement}
 use Rattle.splitting.proofs.parts.share_class.Tie as tie
+
+-- the ways back to the new name read, and to the start
+abbrev first : tie.After-number-at3 → tie.Else1
+first c = c .before .before .before .before
+
+abbrev began : tie.Else1 → tie.Start
+began e = e .before .before .before .before
+
+-- the part that keeps the name isn't larger
+abbrev smaller : tie.After-number-at3 → Bool
+smaller c = leb (c .number-at3 .result - c .before .before .number-at2 .result) (c .before .before .number-at2 .result)
 
 add-first : tie.Need-add-first
 add-first c = search needs
@@ -23,8 +35,9 @@ same-length c = search needs
 
 returns : tie.Need-returns
 returns c =
-    let b = c .before .before .before .before .before in
-    parted-whole (b .args .n) (b .args .signs) (b .args .p) (now (b .args .pending)) (now (b .args .work)) (sym (c .before .number-at .ensures .0) ∙ c .if1 .taken)
+    let k = c .before in
+    let b = k .before .before .before in
+    parted-whole (b .args .n) (b .args .signs) (b .args .p) (now (b .args .work)) (sym (k .number-at .ensures .0) ∙ c .if1 .taken)
 
 mul-left : tie.Need-mul-left
 mul-left c = search needs
@@ -40,9 +53,21 @@ number-at-requires-3 c κs = search needs
 
 sub-kept : tie.Need-sub-kept
 sub-kept c =
-    let b = c .before .before .before .before .before .before .before .before .before in
-    let e = c .before .before .before .before .before .number-at .ensures .0 in
-    omega (arith, c .number-at3 .ensures .0, c .before .before .number-at2 .ensures .0, b .pre .1 .1 (λ z. c .before .before .before .before .if1 .left (e ∙ z)))
+    let e = first c in
+    let b = began e in
+    omega (arith, c .number-at3 .ensures .0, c .before .before .number-at2 .ensures .0, b .pre .1 .1 (λ z. e .if1 .left (e .before .number-at .ensures .0 ∙ z)))
+
+mul-waits : tie.Need-mul-waits
+mul-waits c = search needs
+
+add-waits : tie.Need-add-waits
+add-waits c = search needs
+
+mul-new : tie.Need-mul-new
+mul-new c = search needs
+
+add-new : tie.Need-add-new
+add-new c = search needs
 
 number-at-requires-4 : tie.Need-number-at-requires-4
 number-at-requires-4 c κs = search needs
@@ -50,35 +75,11 @@ number-at-requires-4 c κs = search needs
 one-of-requires : tie.Need-one-of-requires
 one-of-requires c κs = search needs
 
-cast-pending : tie.Need-cast-pending
-cast-pending c =
-    let b = c .before .before .before .before .before .before .before .before .before .before .before .before in
-    let o = c .before .number-at4 in
-    omega (arith, c .one-of .ensures, pick-small (leb (c .before .before .before .number-at3 .result - c .before .before .before .before .before .number-at2 .result) (c .before .before .before .before .before .number-at2 .result)) 65536 (o .result) (b .args .signs) (o .ensures .1) (omega arith))
-
-mul-pending : tie.Need-mul-pending
-mul-pending c = search needs
-
-slice-write-pending : tie.Need-slice-write-pending
-slice-write-pending c = search needs
-
-one-of-requires-2 : tie.Need-one-of-requires-2
-one-of-requires-2 c κs = search needs
-
-cast-pending-2 : tie.Need-cast-pending-2
-cast-pending-2 c =
-    let b = c .before .before .before .before .before .before .before .before .before .before .before .before .before in
-    let o = c .before .before .number-at4 in
-    omega (arith, c .one-of2 .ensures, pick-small (leb (c .before .before .before .before .number-at3 .result - c .before .before .before .before .before .before .number-at2 .result) (c .before .before .before .before .before .before .number-at2 .result)) 65536 (b .args .signs) (o .result) (omega arith) (o .ensures .1))
-
-mul-pending-2 : tie.Need-mul-pending-2
-mul-pending-2 c = search needs
-
-slice-write-pending-2 : tie.Need-slice-write-pending-2
-slice-write-pending-2 c = simp length-set (omega arith)
-
 cast-work : tie.Need-cast-work
-cast-work c = search needs
+cast-work c =
+    let o = c .before .number-at4 in
+    let k = c .before .before .before in
+    omega (arith, c .one-of .ensures, pick-small (smaller k) 65536 (o .result) (began (first k) .args .signs) (o .ensures .1) (omega arith))
 
 mul-work : tie.Need-mul-work
 mul-work c = search needs
@@ -86,8 +87,14 @@ mul-work c = search needs
 slice-write-work : tie.Need-slice-write-work
 slice-write-work c = search needs
 
+one-of-requires-2 : tie.Need-one-of-requires-2
+one-of-requires-2 c κs = search needs
+
 cast-work-2 : tie.Need-cast-work-2
-cast-work-2 c = search needs
+cast-work-2 c =
+    let o = c .before .before .number-at4 in
+    let k = c .before .before .before .before in
+    omega (arith, c .one-of2 .ensures, pick-small (smaller k) 65536 (began (first k) .args .signs) (o .result) (omega arith) (o .ensures .1))
 
 mul-work-2 : tie.Need-mul-work-2
 mul-work-2 c = search needs
@@ -95,11 +102,17 @@ mul-work-2 c = search needs
 slice-write-work-2 : tie.Need-slice-write-work-2
 slice-write-work-2 c = simp length-set (omega arith)
 
+cast-work-3 : tie.Need-cast-work-3
+cast-work-3 c = search needs
+
 mul-work-3 : tie.Need-mul-work-3
 mul-work-3 c = search needs
 
 slice-write-work-3 : tie.Need-slice-write-work-3
 slice-write-work-3 c = simp length-set (omega arith)
+
+cast-work-4 : tie.Need-cast-work-4
+cast-work-4 c = search needs
 
 mul-work-4 : tie.Need-mul-work-4
 mul-work-4 c = search needs
@@ -107,22 +120,33 @@ mul-work-4 c = search needs
 slice-write-work-4 : tie.Need-slice-write-work-4
 slice-write-work-4 c = simp length-set (omega arith)
 
-same-length-2 : tie.Need-same-length-2
-same-length-2 c = search needs
+mul-work-5 : tie.Need-mul-work-5
+mul-work-5 c = search needs
 
-same-length-3 : tie.Need-same-length-3
-same-length-3 c = search needs
+slice-write-work-5 : tie.Need-slice-write-work-5
+slice-write-work-5 c = simp length-set (omega arith)
+
+mul-work-6 : tie.Need-mul-work-6
+mul-work-6 c = search needs
+
+slice-write-work-6 : tie.Need-slice-write-work-6
+slice-write-work-6 c = simp length-set (omega arith)
+
+same-length-2 : tie.Need-same-length-2
+same-length-2 c = simp length-set refl
 
 returns-2 : tie.Need-returns-2
 returns-2 c =
-    let b = c .before .before .before .before .before .before .before .before .before .before .before .before .before in
-    let r = c .before .before .before .before .before .before .before .before .before .number-at in
-    let g = c .before .before .before .before .before .before .number-at2 in
-    let s = c .before .before .before .before .number-at3 in
-    let o = c .before .before .number-at4 in
-    parted-split (b .args .n) (b .args .signs) (b .args .p) (now (b .args .pending)) (now (b .args .work)) (b .pre .0 .0) (b .pre .0 .1) (b .pre .1 .0 .0)
-    (r .result) (g .result) (s .result) (o .result) (c .before .one-of .result) (c .one-of2 .result)
-    (omega (arith, r .ensures .0, b .pre .1 .0 .1)) (r .ensures .0) (g .ensures .0) (s .ensures .0) (o .ensures .0) (c .before .before .before .before .before .before .before .before .if1 .left) (c .before .one-of .ensures) (c .one-of2 .ensures)
+    let a = c .before in
+    let o = a .before .number-at4 in
+    let k = a .before .before .before in
+    let e = first k in
+    let b = began e in
+    let r = e .before .number-at in
+    let g = k .before .before .number-at2 in
+    let s = k .number-at3 in
+    parted-split (b .args .n) (b .args .signs) (b .args .p) (now (b .args .work)) (b .pre .0 .0) (b .pre .1 .0 .0) (r .result) (g .result) (s .result) (o .result) (a .one-of .result) (c .one-of2 .result)
+    (omega (arith, r .ensures .0, b .pre .1 .0 .1)) (r .ensures .0) (g .ensures .0) (s .ensures .0) (o .ensures .0) (e .if1 .left) (a .one-of .ensures) (c .one-of2 .ensures)
 
 pub share-class-spec : {M : Type 1} → statement M
 share-class-spec =
@@ -137,25 +161,28 @@ share-class-spec =
     number-at-requires-2
     number-at-requires-3
     sub-kept
+    mul-waits
+    add-waits
+    mul-new
+    add-new
     number-at-requires-4
     one-of-requires
-    cast-pending
-    mul-pending
-    slice-write-pending
-    one-of-requires-2
-    cast-pending-2
-    mul-pending-2
-    slice-write-pending-2
     cast-work
     mul-work
     slice-write-work
+    one-of-requires-2
     cast-work-2
     mul-work-2
     slice-write-work-2
+    cast-work-3
     mul-work-3
     slice-write-work-3
+    cast-work-4
     mul-work-4
     slice-write-work-4
+    mul-work-5
+    slice-write-work-5
+    mul-work-6
+    slice-write-work-6
     same-length-2
-    same-length-3
     returns-2)

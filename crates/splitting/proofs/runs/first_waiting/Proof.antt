@@ -5,24 +5,29 @@ use mathlib.Core.Path.{_≡_, sym, ap, _∙_}
 use mathlib.Core.Bool.{false, not}
 use native.Mathlib.Omega.{arith}
 use borrow.Author.Count.{below-more}
-use borrow.Author.Needs.{needs}
 use borrow.Author.Tests.{eq-eqb, ne-eqb}
 use lib.Dec.{eqb}
-use Rattle.counting.specs.Lists.{at}
 use Rattle.counting.proofs.Leasts.{least-first, least-none}
+use Rattle.splitting.specs.Work.{pendingOf}
 use Rattle.splitting.proofs.runs.first_waiting.Statement.{statement}
 use Rattle.splitting.proofs.runs.first_waiting.Tie as tie
 
 abbrev Inv-loop : tie.InvT-loop
-Inv-loop pending n low q₀ q = (q ≤ n) × ((p : ℕ) → p < q → not (eqb (at pending p) 0) ≡ false)
+Inv-loop work n low pending q₀ q = (q ≤ n) × ((p : ℕ) → p < q → not (eqb (pendingOf n work p) 0) ≡ false)
 
 abbrev μ-loop : tie.MeasureT-loop
-μ-loop pending n low q₀ q = n - q
+μ-loop work n low pending q₀ q = n - q
+
+mul-pending : tie.Need-mul-pending Inv-loop μ-loop
+mul-pending c = omega (arith, c .before .pre .0 .1)
 
 loop-holds : tie.Need-loop-holds Inv-loop μ-loop
 loop-holds c =
     let b = c .before in
-    (b .pre .0 .1, λ p l. ap not (eq-eqb _ 0 (b .pre .1 p l)))
+    (b .pre .0 .2, λ p l. ap not (eq-eqb _ 0 (b .pre .1 p l)))
+
+add-number-at : tie.Need-add-number-at Inv-loop μ-loop
+add-number-at c = omega (arith, c .loop-test .taken, c .before .before .before .pre .0 .1)
 
 number-at-requires : tie.Need-number-at-requires Inv-loop μ-loop
 number-at-requires c κs = omega (arith, c .loop-test .taken, c .before .before .before .pre .0 .0)
@@ -33,7 +38,9 @@ returns c =
     sym (least-first _ _ _ (i .loop-test .taken) (ap not (ne-eqb _ 0 (λ z. c .if1 .taken (c .before .number-at .ensures .0 ∙ z)))) (i .before .loop .inv .1))
 
 add-q : tie.Need-add-q Inv-loop μ-loop
-add-q c = search needs
+add-q c =
+    let i = c .before .before in
+    omega (arith, i .loop-test .taken, i .before .before .before .pre .0 .1)
 
 loop-less : tie.Need-loop-less Inv-loop μ-loop
 loop-less c = omega (arith, c .before .before .loop-test .taken)
@@ -54,7 +61,9 @@ first-waiting-spec =
     (tie.spec
     Inv-loop
     μ-loop
+    mul-pending
     loop-holds
+    add-number-at
     number-at-requires
     returns
     add-q

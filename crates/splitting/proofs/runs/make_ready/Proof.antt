@@ -1,13 +1,9 @@
 -- `splitting::runs::make_ready` meets its contract: five columns cleared, then the classes counted.
 -- Assumes nothing.
-use mathlib.Core.Path.{ap, _∙_}
-use Prim.Native.Nat.{ℕ, _*_}
-use mathlib.Core.List.{List}
+use mathlib.Core.Path.{sym, subst, _∙_}
 use denote.Ref.{now}
-use lib.ListN.{length}
-use Rattle.counting.specs.Lists.{at}
-use Rattle.lending.proofs.Memories.{cleared-at, cleared-length}
-use Rattle.splitting.proofs.Sizing.{ready-made, ready-beyond}
+use Rattle.splitting.specs.Work.{Classed}
+use Rattle.splitting.proofs.Sizing.{mid-long, mid-clear, mid-classes, ready-made, ready-beyond}
 use native.Mathlib.Omega.{arith}
 use borrow.Author.Needs.{needs}
 use Rattle.splitting.proofs.runs.make_ready.Statement.{statement}
@@ -19,13 +15,19 @@ mul-clear c = search needs
 clear-requires : tie.Need-clear-requires
 clear-requires c κs = search needs
 
+abbrev began : tie.After-clear → tie.Start
+began k = k .before .before .before
+
 count-sizes-requires : tie.Need-count-sizes-requires
 count-sizes-requires c κs =
     let k = c .before .before .before in
-    let b = k .before .before .before .before in
+    let b = began k in
+    let n = b .args .n in
+    let work = now (b .args .work) in
+    let mid = k .clear .last .0 in
     let e = k .clear .ensures in (
-      (omega (arith, ap length e, cleared-length (5 * b .args .n) (now (b .args .work)) (omega (arith, b .pre .0 .0)), b .pre .0 .0), b .pre .0 .1),
-      (b .pre .1, λ x l. ap (λ (w : List ℕ). at w x) e ∙ cleared-at (5 * b .args .n) (now (b .args .work)) x (omega arith)),
+      (omega (arith, mid-long n work mid (b .pre .0 .0) e, b .pre .0 .0), b .pre .0 .1),
+      (subst (Classed n) (sym (mid-classes n work mid (b .pre .0 .0) e)) (b .pre .1), λ x l. mid-clear n work mid (b .pre .0 .0) e x (omega arith)),
     )
 
 same-length : tie.Need-same-length
@@ -35,17 +37,15 @@ returns : tie.Need-returns
 returns c =
     let s = c .before .before in
     let k = s .before .before .before .before in
-    let b = k .before .before .before .before in
+    let b = began k in
+    let n = b .args .n in
+    let work = now (b .args .work) in
+    let mid = k .clear .last .0 in
+    let after = s .count-sizes .last .0 in
     let e = k .clear .ensures in
     let f = s .count-sizes .ensures in
-    let n = b .args .n in
-    let class = now (b .args .class) in
-    let work = now (b .args .work) in
-    let after = s .count-sizes .last .1 .0 in
-    let long = f .0 ∙ ap length e in (
-      omega (arith, long, cleared-length (5 * n) work (omega (arith, b .pre .0 .0))),
-      (ready-made n class work after (b .pre .0 .0) long (f .1 .0) (λ i l. f .1 .1 i l ∙ ap (λ (w : List ℕ). at w i) e), ready-beyond n class work after (b .pre .0 .0) long (f .1 .0) (λ i l. f .1 .1 i l ∙ ap (λ (w : List ℕ). at w i) e)),
-    )
+    let room = b .pre .0 .0 in
+    (f .0 ∙ mid-long n work mid room e, (ready-made n work mid room e after (f .0) (f .1 .0) (f .1 .1), ready-beyond n work mid room e after (f .0) (f .1 .0) (f .1 .1)))
 
 pub make-ready-spec : {M : Type 1} → statement M
 make-ready-spec =

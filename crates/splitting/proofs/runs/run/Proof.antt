@@ -1,6 +1,6 @@
 -- `splitting::runs::run` meets its contract: each `return` is one of the ways out of the run of takes.
 -- Assumes nothing.
-use mathlib.Core.Path.{sym, ap, subst, subst₂, _∙_}
+use mathlib.Core.Path.{_≡_, sym, ap, subst, subst₂, _∙_}
 use mathlib.Core.Logic.{⊎-elim, inl, inr}
 use mathlib.Core.List.{List, [], _∷_}
 use Prim.Native.Nat.{ℕ, _*_, _≤_}
@@ -16,8 +16,8 @@ use Rattle.table.specs.declared.answer.Refusal.{Refusal}
 use Rattle.table.proofs.Openings.{good}
 use Rattle.table.proofs.Handing.{nexts-handed, held}
 use Rattle.splitting.specs.Work.{lists}
-use Rattle.splitting.specs.Running.{RanBy}
-use Rattle.splitting.proofs.Forming.{classed-formed}
+use Rattle.splitting.specs.Running.{RanIn}
+use Rattle.splitting.proofs.Copying.{full-lists}
 use Rattle.splitting.proofs.RunWays.{allowed-most, well-formed, run-refused, run-narrow, run-short, run-ill, run-made}
 use native.Mathlib.Omega.{arith}
 use borrow.Author.Needs.{needs}
@@ -51,11 +51,20 @@ began k = k .before .before .before .before .before .before .before .before
 abbrev judged : tie.After-ill-formed → tie.After-known-told
 judged i = i .before .before .before .before .before .before
 
-abbrev tested : tie.After-make-ready → tie.Else4
-tested m = m .before .before .before .before
+abbrev tested : tie.After-copy-in → tie.Else4
+tested k = k .before .before .before .before
 
-abbrev made : tie.After-run-takes → tie.After-make-ready
-made r = r .before .before .before .before .before .before .before
+abbrev first : tie.After-copy-in2 → tie.After-copy-in
+first k = k .before .before .before .before .before
+
+abbrev second : tie.After-run-takes → tie.After-copy-in2
+second r = r .before .before .before .before .before
+
+abbrev ran : tie.After-copy-out → tie.After-run-takes
+ran o = o .before .before .before .before .before
+
+abbrev third : tie.After-copy-out2 → tie.After-copy-out
+third o = o .before .before .before .before .before
 
 accepted : (k : tie.After-known-told) → Good (now (began k .args .file)) (k .before .judged .given .0 .0)
 accepted k = good (k .before .judged .given .1) (k .before .before .before .judge .ensures)
@@ -116,31 +125,79 @@ well : (e : tie.Else4)
     → WellFormed (judged (e .before) .before .judged .given .0 .0 .states) (judged (e .before) .before .judged .given .0 .0 .signs) (lists (judged (e .before) .before .judged .given .0 .0 .states) (now (began (judged (e .before)) .args .class)) (now (began (judged (e .before)) .args .pending)))
 well e = well-formed _ _ _ (subst (λ (i : ℕ). judged (e .before) .before .judged .given .0 .0 .states ≤ i) (e .before .ill-formed .ensures) (e .if4 .left))
 
-make-ready-requires : tie.Need-make-ready-requires
-make-ready-requires c κs =
-    let e = c .before .before .before in
-    let i = e .before in
+mul-copy-in : tie.Need-mul-copy-in
+mul-copy-in c = search needs
+
+copy-in-requires : tie.Need-copy-in-requires
+copy-in-requires c κs =
+    let i = c .before .before .before .before in
     let (room, class-room, pending-room) = rooms (i .before .before .before) in
-    ((room, accepted (judged i) .range .states-most), classed-formed _ _ _ _ class-room (well e))
+    let few = accepted (judged i) .range .states-most in
+    (class-room, omega arith, omega arith, few)
+
+mul-copy-in-2 : tie.Need-mul-copy-in-2
+mul-copy-in-2 c = search needs
+
+copy-in-requires-2 : tie.Need-copy-in-requires-2
+copy-in-requires-2 c κs =
+    let k = c .before .before .before .before in
+    let i = tested k .before in
+    let (room, class-room, pending-room) = rooms (i .before .before .before) in
+    let few = accepted (judged i) .range .states-most in
+    (pending-room, omega (arith, k .copy-in .ensures .long), omega arith, few)
 
 allowed-takes-requires : tie.Need-allowed-takes-requires
 allowed-takes-requires c κs = search needs
 
 run-takes-requires : tie.Need-run-takes-requires
 run-takes-requires c κs =
-    let a = c .before .before .before in
-    let m = a .before .before .before in
-    let e = tested m in
+    let a = c .before in
+    let f = a .before .before .before in
+    let e = tested (first f) in
     let i = e .before in
     let k = judged i in
+    let b = began k in
     let z = k .before .judged .given .0 .0 in
-    let (room, class-room, pending-room) = rooms (i .before .before .before) in (
-      subst (Held (z .states) (z .signs) (z .start)) (sym (nexts-handed z (m .before .before .before .field-of .ensures))) (held _ z (accepted k)),
-      ((class-room, pending-room, omega (arith, a .allowed-takes .ensures, allowed-most (began k .args .budget))), (well e, m .make-ready .ensures .1 .0)),
+    let (room, class-room, pending-room) = rooms (i .before .before .before) in
+    let put = first f .copy-in .ensures in
+    let put2 = f .copy-in2 .ensures in (
+      subst (Held (z .states) (z .signs) (z .start)) (sym (nexts-handed z (first f .before .before .before .field-of .ensures))) (held _ z (accepted k)),
+      (
+        (omega (arith, put .long, put2 .long), omega (arith, a .allowed-takes .ensures, allowed-most (b .args .budget))),
+        subst (WellFormed (z .states) (z .signs)) (sym (full-lists (z .states) (now (b .args .class)) (now (b .args .pending)) (now (b .args .work)) _ _ class-room pending-room (omega arith) put put2)) (well e),
+      ),
     )
 
+-- the work slice is as long as at the start, and n is small
+long : (r : tie.After-run-takes) → length (r .run-takes .last .1 .1 .1 .0) ≡ length (now (began (judged (tested (first (second r)) .before)) .args .work))
+long r = r .run-takes .ensures .long ∙ second r .copy-in2 .ensures .long ∙ first (second r) .copy-in .ensures .long
+
+few : (r : tie.After-run-takes) → judged (tested (first (second r)) .before) .before .judged .given .0 .0 .states ≤ 1024
+few r = accepted (judged (tested (first (second r)) .before)) .range .states-most
+
+mul-copy-out : tie.Need-mul-copy-out
+mul-copy-out c = omega (arith, few (c .before .before .before))
+
+copy-out-requires : tie.Need-copy-out-requires
+copy-out-requires c κs =
+    let r = c .before .before .before .before in
+    let (room, class-room, pending-room) = rooms (tested (first (second r)) .before .before .before .before) in
+    (class-room, omega (arith, long r), omega (arith, few r), few r)
+
+mul-copy-out-2 : tie.Need-mul-copy-out-2
+mul-copy-out-2 c = omega (arith, few (ran (c .before .before .before)))
+
+copy-out-requires-2 : tie.Need-copy-out-requires-2
+copy-out-requires-2 c κs =
+    let r = ran (c .before .before .before .before) in
+    let (room, class-room, pending-room) = rooms (tested (first (second r)) .before .before .before .before) in
+    (pending-room, omega (arith, long r), omega (arith, few r), few r)
+
 clear-requires-2 : tie.Need-clear-requires-2
-clear-requires-2 c κs = search needs
+clear-requires-2 c κs =
+    let r = ran (third (c .before .before .before)) in
+    let (room, class-room, pending-room) = rooms (tested (first (second r)) .before .before .before .before) in
+    omega (arith, long r)
 
 same-length-4 : tie.Need-same-length-4
 same-length-4 c = search needs
@@ -153,27 +210,30 @@ same-length-6 c = search needs
 
 returns-5 : tie.Need-returns-5
 returns-5 c =
-    let r = c .before .before .before .before .before .before .before .before .before .before in
-    let m = made r in
-    let e = tested m in
+    let k = c .before .before in
+    let p = k .before .before .before .before in
+    let o = third p in
+    let r = ran o in
+    let f = second r in
+    let e = tested (first f) in
     let i = e .before in
-    let k = judged i in
-    let b = began k in
-    let z = k .before .judged .given .0 .0 in
+    let j = judged i in
+    let b = began j in
+    let z = j .before .judged .given .0 .0 in
     let (room, class-room, pending-room) = rooms (i .before .before .before) in
-    let class = r .run-takes .last .1 .1 .1 .0 in
-    let pending = r .run-takes .last .1 .1 .1 .1 .0 in
-    let work = r .run-takes .last .1 .1 .1 .1 .1 .0 in
-    let ready = m .make-ready .last .1 .0 in
+    let class = o .copy-out .last .1 .1 .0 in
+    let pending = p .copy-out2 .last .1 .1 .0 in
+    let full = f .copy-in2 .last .1 .0 in
+    let work = r .run-takes .last .1 .1 .1 .0 in
     let takes = r .run-takes .result .takes in
     let looked = r .run-takes .result .entries in
-    let ran =
-    subst₂ (λ (nexts : List ℕ) (budget : ℕ). RanBy (machineIn (z .states) (z .signs) (z .start) [] nexts) budget (now (b .args .class)) (now (b .args .pending)) class pending ready work takes looked)
-    (nexts-handed z (m .before .before .before .field-of .ensures)) (r .before .before .before .before .allowed-takes .ensures) (r .run-takes .ensures)
+    let made =
+    subst₂ (λ (nexts : List ℕ) (budget : ℕ). RanIn (machineIn (z .states) (z .signs) (z .start) [] nexts) budget full work takes looked)
+    (nexts-handed z (first f .before .before .before .field-of .ensures)) (r .before .before .allowed-takes .ensures) (r .run-takes .ensures)
     in
-    ap (λ (w : List ℕ). left (gives (takes ∷ looked ∷ [])) (class ∷ pending ∷ w ∷ [])) (c .before .before .clear2 .ensures)
-    ∙ run-made (now (b .args .file)) z (accepted k) (b .args .budget) (now (b .args .class)) (now (b .args .pending)) (now (b .args .work)) room class-room pending-room
-    (subst (λ (i : ℕ). z .states ≤ i) (i .ill-formed .ensures) (e .if4 .left)) class pending ready work takes looked ran (m .make-ready .ensures .0) (m .make-ready .ensures .1 .1)
+    ap (λ (w : List ℕ). left (gives (takes ∷ looked ∷ [])) (class ∷ pending ∷ w ∷ [])) (k .clear2 .ensures)
+    ∙ run-made (now (b .args .file)) z (accepted j) (b .args .budget) (now (b .args .class)) (now (b .args .pending)) (now (b .args .work)) room class-room pending-room
+    (subst (λ (i : ℕ). z .states ≤ i) (i .ill-formed .ensures) (e .if4 .left)) (first f .copy-in .last .1 .0) full work class pending takes looked (first f .copy-in .ensures) (f .copy-in2 .ensures) made (o .copy-out .ensures) (p .copy-out2 .ensures)
 
 pub run-spec : {M : Type 1} → statement M
 run-spec =
@@ -194,9 +254,16 @@ run-spec =
     same-length-3
     returns-4
     field-of-requires
-    make-ready-requires
+    mul-copy-in
+    copy-in-requires
+    mul-copy-in-2
+    copy-in-requires-2
     allowed-takes-requires
     run-takes-requires
+    mul-copy-out
+    copy-out-requires
+    mul-copy-out-2
+    copy-out-requires-2
     clear-requires-2
     same-length-4
     same-length-5

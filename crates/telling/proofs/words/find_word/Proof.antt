@@ -44,7 +44,7 @@ keeps : (c : tie.After-find-classes) → Keeps (machine (c .before .before .befo
 keeps c = settled-keeps (machine (c .before .before .before .before .before .before)) (now (c .before .before .before .before .before .before .args .work)) (after c) (c .find-classes .result) (c .find-classes .ensures)
 
 beyond : (c : tie.After-find-classes)
-    → (length (after c) ≡ length (now (c .before .before .before .before .before .before .args .work))) × ((i : ℕ) → 5 * c .before .before .before .before .before .before .args .sizes .states ≤ i → at (after c) i ≡ at (now (c .before .before .before .before .before .before .args .work)) i)
+    → (length (after c) ≡ length (now (c .before .before .before .before .before .before .args .work))) × ((i : ℕ) → 6 * c .before .before .before .before .before .before .args .sizes .states ≤ i → at (after c) i ≡ at (now (c .before .before .before .before .before .before .args .work)) i)
 beyond c = (c .find-classes .ensures .long, c .find-classes .ensures .beyond)
 
 -- the layer in which the states part

@@ -1,9 +1,9 @@
--- `splitting::parts::one_of` meets its contract.
+-- `lending::one_of` meets its contract.
 -- Assumes nothing.
 use mathlib.Core.Path.{refl}
 use Rattle.counting.specs.Least.{pick}
-use Rattle.splitting.proofs.parts.one_of.Statement.{statement}
-use Rattle.splitting.proofs.parts.one_of.Tie as tie
+use Rattle.lending.proofs.one_of.Statement.{statement}
+use Rattle.lending.proofs.one_of.Tie as tie
 
 returns : tie.Need-returns
 unfolding pick
