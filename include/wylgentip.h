@@ -128,6 +128,20 @@ typedef struct {
 wyl_taken wyl_run(const uint8_t *file, size_t length, size_t budget, uint16_t *classes, size_t classes_length, uint16_t *pending,
                   size_t pending_length, uint16_t *work, size_t work_length);
 
+/* number 0: the rows of the shrunk file and its length in bytes. Any other number is that of the refusal, and the rest is 0. */
+typedef struct {
+    size_t number;
+    size_t place;
+    size_t rows;
+    size_t length;
+} wyl_shrunk;
+
+/* The shrunk file, at the front of out: one row for each class that holds a state reachable from the start, in rising order of the
+ * classes' least states; 15 + rows + 2 x rows x k bytes. It accepts exactly the words the given file does, and no file over the
+ * same signs with fewer rows does; shrinking it again gives the same bytes. Judges the whole file. Refuses with 1 to 8, then 11
+ * (work), then 12 at the length of the shrunk file, which is never longer than the given one. */
+wyl_shrunk wyl_shrink(const uint8_t *file, size_t length, uint16_t *work, size_t work_length, uint8_t *out, size_t out_length);
+
 #ifdef __cplusplus
 }
 #endif

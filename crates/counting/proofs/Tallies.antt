@@ -67,6 +67,12 @@ any-iff (suc n) P = (from (any n P) (P n) refl (any-iff n P .0), to (any-iff n P
     to r (i, l, h) =
         below n i l (λ e. ap (λ (b : Bool). any n P || b) (ap P (sym e) ∙ h) ∙ or-true (any n P)) (λ m. ap (λ (b : Bool). b || P n) (r (i, m, h)))
 
+-- tests that agree pass together
+pub any-cong : (n : ℕ) (P Q : ℕ → Bool) → ((i : ℕ) → i < n → P i ≡ Q i) → any n P ≡ any n Q
+unfolding any
+any-cong zero P Q h = refl
+any-cong (suc n) P Q h = ap₂ _||_ (any-cong n P Q (λ i l. h i (omega arith))) (h n (omega arith))
+
 -- of lists of n numbers
 pub agree-iff : (n : ℕ) (xs ys : List ℕ) → length xs ≡ n → length ys ≡ n → (agree n xs ys ≡ true) ↔ (xs ≡ ys)
 unfolding agree

@@ -1,5 +1,5 @@
 -- Laws of `those` and `place`: which numbers stand in the list, that they rise, and where a number stands.
-use mathlib.Core.Path.{_≡_, refl, sym, _∙_}
+use mathlib.Core.Path.{_≡_, refl, sym, ap₂, _∙_}
 use mathlib.Core.Bool.{Bool, true, false}
 use mathlib.Core.List.{List, [], _∷_, _++_, append-nil}
 use Prim.Native.Nat.{ℕ, zero, suc, _+_, _<_}
@@ -69,6 +69,13 @@ all-those zero P h = refl
 all-those (suc n) P h =
     rw (h n (omega arith), all-those n P (λ q l. h q (omega arith)))
     (sym (rw (add-one n, add-zero n) at (tab-add n 1 (λ q. q))))
+
+-- tests that agree have one list
+pub those-cong : (n : ℕ) (P Q : ℕ → Bool) → ((q : ℕ) → q < n → P q ≡ Q q) → those n P ≡ those n Q
+unfolding those
+those-cong zero P Q h = refl
+those-cong (suc n) P Q h =
+    ap₂ (λ (xs : List ℕ) (b : Bool). xs ++ pick b (n ∷ []) []) (those-cong n P Q (λ q l. h q (omega arith))) (h n (omega arith))
 
 module _ (n : ℕ) (P : ℕ → Bool) where
   pub those-length : length (those n P) ≡ count n P

@@ -19,6 +19,8 @@ pub mod Progress
 pub mod RunWays
 pub mod RunUniqueness
 pub mod Pendings
+pub mod FreshPendings
+pub mod StartPlaces
 pub mod StartWays
 pub mod StartUniqueness
 pub mod Demands

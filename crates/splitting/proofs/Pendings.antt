@@ -1,6 +1,6 @@
 -- The pending list of a fresh start: written state by state, and the mark that is due.
 use mathlib.Core.Path.{_≡_, refl, sym, subst, _∙_}
-use mathlib.Core.Bool.{Bool, true, false, _&&_, and-false}
+use mathlib.Core.Bool.{Bool, true, false, not, _&&_, and-false}
 use mathlib.Core.List.{List}
 use Prim.Native.Nat.{ℕ, zero, suc, _+_, _≤_, _<_}
 use native.Mathlib.Nat.{not-suc-le-zero}
@@ -12,19 +12,22 @@ use lib.ListN.{length, set, length-set}
 use lib.Seq.{getD-set-same, getD-set-other}
 use Rattle.counting.specs.Lists.{at}
 use Rattle.counting.specs.Least.{pick}
-use Rattle.counting.specs.Counts.{count}
+use Rattle.counting.specs.Counts.{any, count}
 use Rattle.splitting.specs.Filling.{Filled}
 
-module _ (k due : ℕ) (marks class before : List ℕ) where
-  pub filled-none : Filled k due 0 marks class before before
+-- whether a state is the first that has the mark due
+abbrev pub isFirst : ℕ → List ℕ → ℕ → Bool
+isFirst due marks q = eqb (at marks q) due && not (any q (λ y. eqb (at marks y) due))
+
+module _ (k due : ℕ) (marks before : List ℕ) where
+  pub filled-none : Filled k due 0 marks before before
   filled-none = record { long = refl; pendings = λ q l. absurd (not-suc-le-zero l); beyond = λ i l. refl }
 
-  pub filled-more : (x v : ℕ) (after : List ℕ) → x < length after → v ≡ pick (eqb (at class x) x && eqb (at marks x) due) k 0 → Filled k due x marks class before after
-      → Filled k due (x + 1) marks class before (set after x v)
+  pub filled-more : (x v : ℕ) (after : List ℕ) → x < length after → v ≡ pick (isFirst due marks x) k 0 → Filled k due x marks before after → Filled k due (x + 1) marks before (set after x v)
   filled-more x v after room e d = record {
     long = length-set after x v ∙ d .long;
     pendings = λ q l. elim (ℕ-discrete q x) [
-      | yes f ↦ subst (λ (y : ℕ). at (set after x v) y ≡ pick (eqb (at class y) y && eqb (at marks y) due) k 0) (sym f) (getD-set-same after x v 0 room ∙ e)
+      | yes f ↦ subst (λ (y : ℕ). at (set after x v) y ≡ pick (isFirst due marks y) k 0) (sym f) (getD-set-same after x v 0 room ∙ e)
       | no u ↦ getD-set-other after x q v 0 u ∙ d .pendings q (omega arith)
     ];
     beyond = λ i l. getD-set-other after x i v 0 (omega arith) ∙ d .beyond i (omega arith);
@@ -51,3 +54,6 @@ pub due-nowhere : (named both : Bool) (m due k : ℕ) → m < 2 → pick (named 
 unfolding pick
 due-nowhere named true m due k l = refl
 due-nowhere named false m due k l = rw (ne-eqb m 2 (omega arith), and-false) refl
+
+pub none-waits : (t : Bool) (k : ℕ) → k ≡ 0 → pick t k 0 ≡ 0
+none-waits t k e = omega (arith, e, waiting-small t k)

@@ -39,22 +39,22 @@ run-refused file budget class pending work e = sym (file-refused file (class ∷
 
 -- a run doesn't look at the marks
 module _ (n k start : ℕ) (marks nexts : List ℕ) where
-  abbrev marked : Machine
+  abbrev pub marked : Machine
   marked = machineIn n k start marks nexts
 
-  abbrev bare : Machine
+  abbrev pub bare : Machine
   bare = machineIn n k start [] nexts
 
   step-bare : (s : Split) → (step bare s ≡ step marked s) × (stepTakes bare s ≡ stepTakes marked s) × (stepEntries bare s ≡ stepEntries marked s)
   unfolding step stepTakes stepEntries takeOf takeBy entries dueHits hits
   step-bare s = (refl, refl, refl)
 
-  lists-bare : (b : ℕ) (s : Split) → runLists bare b s ≡ runLists marked b s
+  pub lists-bare : (b : ℕ) (s : Split) → runLists bare b s ≡ runLists marked b s
   unfolding runLists
   lists-bare zero s = refl
   lists-bare (suc b) s = lists-bare b (step bare s) ∙ ap (runLists marked b) (step-bare s .0)
 
-  takes-bare : (b : ℕ) (s : Split) → runTakes bare b s ≡ runTakes marked b s
+  pub takes-bare : (b : ℕ) (s : Split) → runTakes bare b s ≡ runTakes marked b s
   unfolding runTakes
   takes-bare zero s = refl
   takes-bare (suc b) s = ap₂ _+_ (step-bare s .1) (takes-bare b (step bare s) ∙ ap (runTakes marked b) (step-bare s .0))

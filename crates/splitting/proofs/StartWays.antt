@@ -1,22 +1,20 @@
 -- The ways out of the fresh start, each with its facts.
 use mathlib.Core.Path.{_≡_, sym, ap, ap₂, _∙_}
 use mathlib.Core.Logic.{_⊎_, inl, inr}
-use mathlib.Core.Bool.{Bool, true, not, _&&_, _||_, or-true}
+use mathlib.Core.Bool.{Bool, true, _||_, or-true}
 use mathlib.Core.List.{List, [], _∷_}
-use Prim.Native.Nat.{ℕ, _-_, _≤_, _<_}
+use Prim.Native.Nat.{ℕ, _≤_, _<_}
 use native.Mathlib.Omega.{arith}
 use borrow.Author.Tests.{lt-ltb, le-ltb}
-use lib.Dec.{eqb, ltb, leb}
+use lib.Dec.{ltb}
 use lib.ListN.{length}
 use Rattle.counting.specs.Lists.{at}
-use Rattle.counting.specs.Least.{pick, name}
-use Rattle.counting.specs.Counts.{count}
+use Rattle.counting.specs.Least.{name}
 use Rattle.counting.proofs.Tabs.{tab-length, tab-at}
 use Rattle.automaton.specs.Machine.{Machine}
 use Rattle.automaton.specs.Layers.{alikeKind, layer}
 use Rattle.automaton.proofs.Alikes.{layer-length}
-use Rattle.refining.specs.Fresh.{pendingOf, freshOf, fresh, markedPending}
-use Rattle.refining.proofs.Freshness.{fresh-marked}
+use Rattle.refining.specs.Fresh.{pendingOf, freshOf, fresh}
 use Rattle.lending.specs.Memory.{written}
 use Rattle.lending.proofs.Memories.{written-is}
 use Rattle.table.specs.Answers.{gives, refuses}
@@ -27,11 +25,10 @@ use Rattle.table.specs.Accepted.{Good}
 use Rattle.table.specs.declared.answer.Sizes.{Sizes}
 use Rattle.table.proofs.Leavings.{file-refused, file-given, refuses-here, refuses-not}
 use Rattle.table.proofs.Openings.{good-given}
-use Rattle.table.proofs.Handing.{marksIn, nextsIn, machine-is, held, held-lawful, marks-small}
+use Rattle.table.proofs.Handing.{marksIn, nextsIn, machine-is}
 use Rattle.layering.specs.Layered.{FirstNamed}
-use Rattle.splitting.specs.Filling.{Filled}
+use Rattle.splitting.specs.Filling.{FreshFilled}
 use Rattle.splitting.specs.StartCall.{startOf, startLeaves}
-use Rattle.splitting.proofs.Pendings.{marks-both, due-nowhere}
 
 pub start-refused : (file class pending : List ℕ) {number place : ℕ} → judged file ≡ refuses number place → left (refuses number place) (class ∷ pending ∷ []) ≡ startLeaves file class pending
 unfolding startLeaves
@@ -70,36 +67,12 @@ module _ (file : List ℕ) (z : Sizes) (g : Good file z) (class pending : List �
         let e : length (layer machine 0) ≡ z .states = layer-length machine 0 in
         written-is (layer machine 0) class names (named .long) (omega arith) (λ j l. name-at j (omega arith)) (λ j l. named .beyond j (omega arith))
 
-    -- the mark due, by the count of accepting states
-    module _ (accepting due : ℕ) (counts : accepting ≡ count (z .states) (λ x. eqb (at marks x) 1))
-        (is : due ≡ pick (not (eqb accepting 0) && not (eqb (z .states - accepting) 0)) (pick (leb accepting (z .states - accepting)) 1 0) 2)
-        (after : List ℕ) (filled : Filled (z .signs) due (z .states) marks names pending after) where
-      other : ℕ
-      other = count (z .states) (λ x. eqb (at marks x) 0)
-
-      others : z .states - accepting ≡ other
-      unfolding other
-      others = omega (arith, counts, marks-both (z .states) (at marks) (marks-small file z g))
-
-      -- the pending of a state by the mark due, by both counts
-      rule : ℕ → ℕ → ℕ → ℕ → ℕ
-      rule q m a o = pick ((not (eqb a 0) && not (eqb o 0)) && eqb m q && eqb (at marks q) (pick (leb a o) 1 0)) (z .signs) 0
-
-      pending-at : (q : ℕ) → q < z .states → at after q ≡ at (fresh machine .pending) q
-      unfolding markedPending other rule
-      pending-at q l =
-          filled .pendings q l
-          ∙ ap (λ (m : ℕ). pick (eqb (at names q) q && eqb (at marks q) m) (z .signs) 0) is
-          ∙ due-nowhere (eqb (at names q) q) (not (eqb accepting 0) && not (eqb (z .states - accepting) 0)) (at marks q) (pick (leb accepting (z .states - accepting)) 1 0) (z .signs) (marks-small file z g q l)
-          ∙ ap₂ (λ (m o : ℕ). rule q m accepting o) (name-at q l) others
-          ∙ ap (λ (a : ℕ). rule q (at (layer machine 0) q) a other) counts
-          ∙ sym (fresh-marked machine (held-lawful marks (held file z g)) (λ x k. omega (arith, marks-small file z g x k)) q l)
-
+    module _ (after : List ℕ) (filled : FreshFilled (z .states) (z .signs) marks pending after) where
       pendings-fresh : after ≡ written (fresh machine .pending) pending
       unfolding fresh freshOf pendingOf
       pendings-fresh =
           let e : length (fresh machine .pending) ≡ z .states = tab-length (z .states) _ in
-          written-is (fresh machine .pending) pending after (filled .long) (omega arith) (λ j l. pending-at j (omega arith)) (λ j l. filled .beyond j (omega arith))
+          written-is (fresh machine .pending) pending after (filled .long) (omega arith) (λ j l. filled .pendings (z .start) (nextsIn file z) j (omega arith)) (λ j l. filled .beyond j (omega arith))
 
       pub start-fresh : left (gives []) (names ∷ after ∷ []) ≡ startLeaves file class pending
       unfolding startOf

@@ -11,10 +11,13 @@ use Rattle.splitting.specs.StartCall.{toldStart}
 use Rattle.splitting.specs.RunCall.{toldRun}
 use Rattle.splitting.specs.declared.starts.Started.{Started}
 use Rattle.splitting.specs.declared.runs.Ran.{Ran as Takes}
+use Rattle.shrinking.specs.Calls.{told as shrinkTold}
+use Rattle.shrinking.specs.declared.shrinks.Shrinking.{Shrinking}
 use Rattle.telling.specs.Calls.{told as tellTold}
 use Rattle.telling.specs.declared.words.Parting.{Parting}
 use Rattle.wylgentip.specs.declared.words.WylRan.{WylRan}
 use Rattle.wylgentip.specs.declared.layers.WylLayered.{WylLayered}
+use Rattle.wylgentip.specs.declared.shrinks.WylShrunk.{WylShrunk}
 use Rattle.wylgentip.specs.declared.takes.WylStarted.{WylStarted}
 use Rattle.wylgentip.specs.declared.takes.WylTaken.{WylTaken}
 use Rattle.wylgentip.specs.declared.tells.WylTold.{WylTold}
@@ -70,3 +73,11 @@ flatRun (refuses number place) = record { number = number; place = place; takes 
 
 abbrev pub runFlat : Takes → WylTaken
 runFlat answer = flatRun (toldRun answer)
+
+-- the shrunk file: its rows and its length, or the refusal
+abbrev pub flatShrink : Said → WylShrunk
+flatShrink (gives vs) = record { number = 0; place = 0; rows = getD vs 0 0; length = getD vs 1 0 }
+flatShrink (refuses number place) = record { number = number; place = place; rows = 0; length = 0 }
+
+abbrev pub shrinkFlat : Shrinking → WylShrunk
+shrinkFlat answer = flatShrink (shrinkTold answer)

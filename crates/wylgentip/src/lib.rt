@@ -2,6 +2,7 @@
 // include/wylgentip.h says what each refuses and leaves.
 pub mod file;
 pub mod layers;
+pub mod shrinks;
 pub mod takes;
 pub mod tells;
 pub mod words;
