@@ -1,0 +1,4 @@
+-- Laws of the report.
+pub mod Answering
+pub mod Sequel
+pub mod Uniqueness

@@ -1,0 +1,2 @@
+-- The report on a table.
+pub mod Reports
