@@ -7,16 +7,17 @@ use crate::generate::{
     all_apart, blank, chain, copies, encode, fields, mostly_unreachable, renamed, scattered,
     small_table, t1, t2, t3, word, Random, Table, T1_SHRUNK,
 };
+use crate::interface::running::{run_line, run_word};
 use crate::interface::shrinking::{self as library, Shrunk};
 use crate::lent::{any_room, enough, refusal_by_room, rooms, Lent};
 use crate::second::automaton::Automaton;
 use crate::second::layering::{count, partition};
-use crate::second::running::run_word;
 use crate::second::shrinking as second;
 
 const OF_THE_PAPER: usize = 4;
 const OF_ALL_ROOMS: usize = 25 * 12;
 const GENERATED: usize = 50_000;
+const LINED: usize = 4_000;
 const LARGEST: usize = 14;
 const OF_ANY_ROOM: usize = 20_000;
 const DAMAGED: usize = 10_000;
@@ -92,7 +93,7 @@ fn demand_rows(comparison: &Comparison, file: &[u8], shrunk: &[u8], rows: usize)
     comparison.expect(file, format_args!("rows"), rows, count(&classes));
 }
 
-/// Shrinks, shrinks again, and runs words over both files.
+/// Shrinks, shrinks again, and runs words and lines over both files.
 fn compare_whole(random: &mut Random, comparison: &mut Comparison, table: &Table) {
     let file = encode(table);
     let (shrunk, bytes) = compare_accepted(random, comparison, &file);
@@ -109,6 +110,9 @@ fn compare_whole(random: &mut Random, comparison: &mut Comparison, table: &Table
         let word = word(random, table.signs, length);
         let (given, after) = (run_word(&file, &word), run_word(&bytes, &word));
         comparison.expect(&file, format_args!("the run of {word:?}"), after, given);
+        let line = random.bytes(length);
+        let (given, after) = (run_line(&file, &line), run_line(&bytes, &line));
+        comparison.expect(&file, format_args!("the line {line:?}"), after, given);
     }
 }
 
@@ -120,6 +124,19 @@ fn generated_tables() {
     });
     comparison.met([0], GENERATED);
     comparison.finish(GENERATED);
+}
+
+/// Tables over the signs of the plan, on which lines run.
+#[test]
+fn tables_that_run_lines() {
+    let comparison = Comparison::generated(56_000_000, LINED / 2, |random, comparison| {
+        let states = random.between(1, 20);
+        let table = copies(random, states, 47);
+        let table = renamed(random, &table);
+        compare_whole(random, comparison, &table);
+    });
+    comparison.met([0], LINED);
+    comparison.finish(LINED);
 }
 
 #[test]
