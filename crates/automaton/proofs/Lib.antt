@@ -9,4 +9,3 @@ pub mod Reaching
 pub mod Rowlists
 pub mod Quotients
 pub mod Fewest
-pub mod Sampled

@@ -6,4 +6,3 @@ pub mod Telling
 pub mod Births
 pub mod Reach
 pub mod Quotient
-pub mod Samples

@@ -10,4 +10,3 @@ pub mod Marks
 pub mod Freshness
 pub mod Runs
 pub mod Demand
-pub mod Sampled

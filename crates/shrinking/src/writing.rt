@@ -27,7 +27,7 @@ fn row_of(work: &[u16], n: usize, q: usize) -> usize
 }
 
 // Writes field 1, and the head of field 2.
-fn write_sizes(rows: usize, signs: usize, start: usize, out: &mut [u8])
+pub fn write_sizes(rows: usize, signs: usize, start: usize, out: &mut [u8])
     requires small { ⌜ (rows < 65536) × (signs < 65536) × (start < 65536) ⌝ }
     requires room { ⌜ 12 ≤ length (now out) ⌝ }
     ensures { λ _. ⌜ now (out .exit) ≡ sets (now (out .entry)) 0 (sizesBytes rows signs start) ⌝ }

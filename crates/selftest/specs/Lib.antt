@@ -1,0 +1,3 @@
+-- The samples of document 01.
+pub mod Samples
+pub mod Starred
