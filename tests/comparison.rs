@@ -1,24 +1,26 @@
-// One comparison: answers and lent memory of the library and of the second program, held against
-// each other and counted. Rests on generate.rs and lent.rs.
+// One comparison: answers and lent memory of the proved code and of the second program, held
+// against each other and counted. Rests on generate.rs and lent.rs.
 
+use std::collections::BTreeMap;
 use std::fmt::{Arguments, Debug};
+use std::thread::panicking;
 
 use crate::generate::Random;
 use crate::lent::{Leftover, Lent};
 
 const SHOWN_WHOLE: usize = 400;
 
-/// Counts the calls compared, and how often each number from 0 to 13 was the answer.
+/// Counts the calls compared: of each call, how often each number from 0 to 13 was the answer.
 pub struct Comparison {
     seed: Option<u64>,
-    answers: [usize; 14],
+    answers: BTreeMap<&'static str, [usize; 14]>,
 }
 
 impl Comparison {
     pub fn new() -> Comparison {
         Comparison {
             seed: None,
-            answers: [0; 14],
+            answers: BTreeMap::new(),
         }
     }
 
@@ -42,28 +44,20 @@ impl Comparison {
         self.seed = None;
     }
 
-    /// Demands the same of both programs.
-    pub fn demand<T>(&self, file: &[u8], what: Arguments, library: T, second: T)
-    where
-        T: PartialEq + Debug,
-    {
-        assert!(
-            library == second,
-            "{what} differs\nlibrary:  {library:?}\nsecond:   {second:?}\n{}",
-            self.describe(file)
-        );
+    /// Demands the same of the proved code and of the second program.
+    pub fn demand<T: PartialEq + Debug>(&self, file: &[u8], what: Arguments, proved: T, second: T) {
+        demand_same(file, what, ("proved", proved), ("second program", second));
     }
 
-    /// Demands this of the library.
-    pub fn expect<T>(&self, file: &[u8], what: Arguments, found: T, expected: T)
-    where
-        T: PartialEq + Debug,
-    {
-        assert!(
-            found == expected,
-            "{what} isn't as expected\nfound:    {found:?}\nexpected: {expected:?}\n{}",
-            self.describe(file)
-        );
+    /// Demands this of the proved code.
+    pub fn expect<T: PartialEq + Debug>(
+        &self,
+        file: &[u8],
+        what: Arguments,
+        found: T,
+        expected: T,
+    ) {
+        demand_same(file, what, ("found", found), ("expected", expected));
     }
 
     /// Demands that lent memory is as it was before.
@@ -71,7 +65,7 @@ impl Comparison {
         assert!(
             kept == lent,
             "the lent {what} was changed\n{}",
-            self.describe(file)
+            describe(file)
         );
     }
 
@@ -84,7 +78,7 @@ impl Comparison {
         may_change: usize,
     ) {
         if let Some(difference) = lent.difference(may_change) {
-            panic!("the {what}: {difference}\n{}", self.describe(file));
+            panic!("the {what}: {difference}\n{}", describe(file));
         }
     }
 
@@ -98,37 +92,68 @@ impl Comparison {
         assert!(
             work.left()[..cleared].iter().all(|&left| left == 0),
             "the work slice isn't cleared\n{}",
-            self.describe(file)
+            describe(file)
         );
     }
 
-    fn describe(&self, file: &[u8]) -> String {
-        let seed = match self.seed {
-            Some(seed) => format!("seed {seed}"),
-            None => "no seed".to_string(),
-        };
-        format!("{seed}, file of {} bytes: {}", file.len(), hex(file))
-    }
-
     /// Counts a call compared, by the number of its answer.
-    pub fn count(&mut self, number: usize) {
-        self.answers[number] += 1;
+    pub fn count(&mut self, call: &'static str, number: usize) {
+        self.answers.entry(call).or_default()[number] += 1;
     }
 
-    /// Demands that at least so many calls gave each of these numbers.
+    /// Demands that at least so many answers had each of these numbers.
     pub fn met(&self, numbers: impl IntoIterator<Item = usize>, least: usize) {
         for number in numbers {
-            let calls = self.answers[number];
-            assert!(calls >= least, "number {number} was met {calls} times only");
+            let met: usize = self.answers.values().map(|answers| answers[number]).sum();
+            assert!(met >= least, "number {number} was met {met} times only");
         }
+    }
+
+    /// Demands of one call that at least so many of its answers had each of these numbers.
+    pub fn met_by(&self, call: &str, numbers: impl IntoIterator<Item = usize>, least: usize) {
+        for number in numbers {
+            let met = self.answers[call][number];
+            assert!(met >= least, "{call} met number {number} {met} times only");
+        }
+    }
+
+    /// How often one call was compared.
+    pub fn calls(&self, call: &str) -> usize {
+        self.answers[call].iter().sum()
     }
 
     /// Demands that at least so many calls were compared.
     pub fn finish(self, least: usize) {
-        let calls: usize = self.answers.iter().sum();
+        let calls: usize = self.answers.keys().map(|call| self.calls(call)).sum();
         println!("{calls} calls compared, by number {:?}", self.answers);
         assert!(calls >= least, "{calls} calls compared, {least} promised");
     }
+}
+
+impl Drop for Comparison {
+    /// Names the seed at which a failure was raised, here or in the programs compared.
+    fn drop(&mut self) {
+        if let (true, Some(seed)) = (panicking(), self.seed) {
+            eprintln!("seed {seed}");
+        }
+    }
+}
+
+fn demand_same<T: PartialEq + Debug>(
+    file: &[u8],
+    what: Arguments,
+    (one, first): (&str, T),
+    (other, second): (&str, T),
+) {
+    assert!(
+        first == second,
+        "{what} differs\n{one}: {first:?}\n{other}: {second:?}\n{}",
+        describe(file)
+    );
+}
+
+fn describe(file: &[u8]) -> String {
+    format!("file of {} bytes: {}", file.len(), hex(file))
 }
 
 /// The number of states of an accepted file.

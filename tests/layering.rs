@@ -2,12 +2,9 @@
 // Rests on comparison.rs and lent.rs, on the library and the second program, and on generate.rs.
 
 use crate::comparison::{states_of, Comparison};
-use crate::damage::damaged;
-use crate::generate::{
-    all_apart, blank, chain, copies, encode, fields, mostly_unreachable, one_class, renamed,
-    scattered, small_table, t1, t2, t3, Random, Table,
-};
+use crate::generate::{blank, chain, encode, renamed, small_table, t1, t2, t3, Random, Table};
 use crate::interface::layering::{self as library, Layered};
+use crate::largest::{largest_tables, LARGEST_TABLES};
 use crate::lent::{any_room, enough, refusal_by_room, rooms, Lent};
 use crate::second::automaton::Automaton;
 use crate::second::layering as second;
@@ -16,9 +13,7 @@ use crate::second::moore;
 const OF_THE_PAPER: usize = 4;
 const OF_ALL_ROOMS: usize = 25 * 6;
 const CHAINS: usize = 2 * 79;
-const LARGEST: usize = 9;
 const GENERATED: usize = 30_000;
-const DAMAGED: usize = 10_000;
 const OF_BOTH_WAYS: u64 = 2_000;
 
 /// The lengths of the work slice and of the class list.
@@ -47,7 +42,7 @@ fn compare(
     comparison.demand_lent(file, "class list", &classes, written);
     comparison.demand_work(file, &work, layered.number);
     comparison.demand_kept(&kept, "file", &kept, file);
-    comparison.count(layered.number);
+    comparison.count("layers", layered.number);
     (layered, classes.left()[..written].to_vec())
 }
 
@@ -121,57 +116,35 @@ fn chains_need_two_rounds_fewer_than_states() {
 }
 
 #[test]
-fn largest_tables() {
+fn largest() {
     let mut comparison = Comparison::new();
     comparison.seeded(2, |random, comparison| {
-        for (table, expected) in [
-            (chain(random, 1_024, 1), Some((1_024, 1_022))),
-            (one_class(random, 1_024, 31), Some((1, 0))),
-            (blank(500, 64), Some((1, 0))),
-            (all_apart(random, 1_024, 31), None),
-            (scattered(random, 1_000, 32), None),
-            (scattered(random, 500, 64), None),
-            (scattered(random, 680, 47), None),
-            (mostly_unreachable(random, 1_024, 2), None),
-            (copies(random, 1_024, 31), None),
-        ] {
-            let table = renamed(random, &table);
-            let (layered, _) = compare_table(random, comparison, &table);
-            if let Some((classes, rounds)) = expected {
-                let expected = Layered::accepted(classes, rounds);
-                comparison.expect(&encode(&table), format_args!("layers"), layered, expected);
-            }
-        }
+        let tables = largest_tables(random);
+        let found = tables.map(|table| compare_table(random, comparison, &table).0);
+        let expected = [(1_024, 1_022), (1, 0), (1, 0)];
+        assert_eq!(
+            found[..3],
+            expected.map(|(classes, rounds)| Layered::accepted(classes, rounds))
+        );
     });
-    comparison.finish(LARGEST);
-}
-
-fn compare_any(random: &mut Random, comparison: &mut Comparison, times_damaged: usize) {
-    let table = small_table(random);
-    let states = table.states();
-    let file = damaged(random, fields(&table), times_damaged);
-    let lengths = [any_room(random, 16 * states), any_room(random, states)];
-    compare(random, comparison, &file, lengths);
+    comparison.finish(LARGEST_TABLES);
 }
 
 #[test]
 fn generated_tables() {
     let comparison = Comparison::generated(22_000_000, GENERATED, |random, comparison| {
-        compare_any(random, comparison, 0);
+        let table = small_table(random);
+        compare_table(random, comparison, &table);
     });
-    comparison.met([0], 20_000);
-    comparison.met([11, 12], 1_000);
+    comparison.met([0], GENERATED);
     comparison.finish(GENERATED);
 }
 
-#[test]
-fn damaged_files() {
-    let comparison = Comparison::generated(23_000_000, DAMAGED, |random, comparison| {
-        let times = random.between(1, 2);
-        compare_any(random, comparison, times);
-    });
-    comparison.met(1..=8, 200);
-    comparison.finish(DAMAGED);
+/// On a file that may be the table's with damage, with slices of any length.
+pub fn compare_any(random: &mut Random, comparison: &mut Comparison, table: &Table, file: &[u8]) {
+    let states = table.states();
+    let lengths = [any_room(random, 16 * states), any_room(random, states)];
+    compare(random, comparison, file, lengths);
 }
 
 /// The second program's classes for timing are the same.

@@ -107,12 +107,13 @@ pub fn refusal_by_room(states: usize, work: usize, [result, needed]: [usize; 2])
     }
 }
 
-/// Mostly enough, and now and then too short.
+/// Mostly enough, now and then too short, and at times longer by nearly all of 16 bits.
 pub fn any_room(random: &mut Random, needed: usize) -> usize {
-    match random.below(16) {
-        0 => 0,
-        1 => needed.saturating_sub(1),
-        2 => random.below(needed + 1),
+    match random.below(64) {
+        0 => needed + 65_535,
+        1..=4 => 0,
+        5..=8 => needed.saturating_sub(1),
+        9..=12 => random.below(needed + 1),
         _ => enough(random, needed),
     }
 }

@@ -1,11 +1,8 @@
 // The tests of running words and lines.
-// Rests on comparison.rs, on the library and the second program, and on generate.rs and damage.rs.
+// Rests on comparison.rs, on the library and the second program, and on generate.rs.
 
 use crate::comparison::{hex, Comparison};
-use crate::damage::damaged;
-use crate::generate::{
-    blank, encode, fields, shaped, small_table, t1, t2, t3, word, Random, Table,
-};
+use crate::generate::{blank, encode, shaped, small_table, t1, t2, t3, word, Random, Table};
 use crate::interface::running::{self as library, Ran};
 use crate::second::file::Refusal;
 use crate::second::running as second;
@@ -16,8 +13,6 @@ const WITH_A_BAD_SIGN: usize = 15_000;
 const OF_TWO_BYTES: usize = 65_536;
 const OF_ANY_LENGTH: usize = 200;
 const OTHER_SIGNS: usize = 500;
-const GENERATED: usize = 100_000;
-const DAMAGED: usize = 10_000;
 
 /// The signs of a table that lines run over.
 const LINE_SIGNS: usize = 47;
@@ -30,13 +25,13 @@ struct Call {
 }
 
 const WORD: Call = Call {
-    name: "run word",
+    name: "run_word",
     library: library::run_word,
     second: second::run_word,
 };
 
 const LINE: Call = Call {
-    name: "run line",
+    name: "run_line",
     library: library::run_line,
     second: second::run_line,
 };
@@ -56,7 +51,7 @@ fn compare(comparison: &mut Comparison, call: &Call, file: &[u8], lent: &[u8]) -
     );
     comparison.demand_kept(&kept_file, "file", &kept_file, file);
     comparison.demand_kept(file, "word or line", &kept, lent);
-    comparison.count(ran.number);
+    comparison.count(call.name, ran.number);
     ran
 }
 
@@ -177,7 +172,7 @@ fn every_pair_of_bytes() {
 }
 
 /// Mostly small.
-fn line_table(random: &mut Random) -> Table {
+pub fn line_table(random: &mut Random) -> Table {
     let states = match random.below(64) {
         0 => random.between(13, 680),
         _ => random.between(1, 12),
@@ -236,35 +231,11 @@ fn any_word(random: &mut Random, signs: usize) -> Vec<u8> {
     }
 }
 
-/// A word and a line on the same file.
-fn compare_both(random: &mut Random, comparison: &mut Comparison, times_damaged: usize) {
-    let table = match random.below(2) {
-        0 => small_table(random),
-        _ => line_table(random),
-    };
-    let file = damaged(random, fields(&table), times_damaged);
+/// A word and a line, on a file that may be the table's with damage.
+pub fn compare_any(random: &mut Random, comparison: &mut Comparison, table: &Table, file: &[u8]) {
     let word = any_word(random, table.signs);
-    compare(comparison, &WORD, &file, &word);
+    compare(comparison, &WORD, file, &word);
     let length = random.below(40);
     let line = line(random, length);
-    compare(comparison, &LINE, &file, &line);
-}
-
-#[test]
-fn generated_tables() {
-    let comparison = Comparison::generated(14_000_000, GENERATED / 2, |random, comparison| {
-        compare_both(random, comparison, 0);
-    });
-    comparison.met([0, 9, 10], 5_000);
-    comparison.finish(GENERATED);
-}
-
-#[test]
-fn damaged_files() {
-    let comparison = Comparison::generated(15_000_000, DAMAGED / 2, |random, comparison| {
-        let times = random.between(1, 2);
-        compare_both(random, comparison, times);
-    });
-    comparison.met(1..=8, 200);
-    comparison.finish(DAMAGED);
+    compare(comparison, &LINE, file, &line);
 }

@@ -2,13 +2,12 @@
 // Rests on comparison.rs and lent.rs, on the library and the second program, and on generate.rs.
 
 use crate::comparison::{states_of, Comparison};
-use crate::damage::damaged;
 use crate::generate::{
-    all_apart, blank, chain, copies, encode, fields, mostly_unreachable, renamed, scattered,
-    small_table, t1, t2, t3, word, Random, Table, T1_SHRUNK,
+    blank, copies, encode, renamed, small_table, t1, t2, t3, word, Random, Table, T1_SHRUNK,
 };
 use crate::interface::running::{run_line, run_word};
 use crate::interface::shrinking::{self as library, Shrunk};
+use crate::largest::{largest_tables, LARGEST_TABLES};
 use crate::lent::{any_room, enough, refusal_by_room, rooms, Lent};
 use crate::second::automaton::Automaton;
 use crate::second::layering::{count, partition};
@@ -18,9 +17,6 @@ const OF_THE_PAPER: usize = 4;
 const OF_ALL_ROOMS: usize = 25 * 12;
 const GENERATED: usize = 50_000;
 const LINED: usize = 4_000;
-const LARGEST: usize = 14;
-const OF_ANY_ROOM: usize = 20_000;
-const DAMAGED: usize = 10_000;
 
 /// Bytes enough for the longest file.
 const LONGEST: usize = 65_015;
@@ -44,7 +40,7 @@ fn compare(
     comparison.demand_lent(file, "shrunk file", &out, shrunk.length);
     comparison.demand_work(file, &work, shrunk.number);
     comparison.demand_kept(&kept, "file", &kept, file);
-    comparison.count(shrunk.number);
+    comparison.count("shrink", shrunk.number);
     (shrunk, out.left()[..shrunk.length].to_vec())
 }
 
@@ -140,23 +136,14 @@ fn tables_that_run_lines() {
 }
 
 #[test]
-fn largest_tables() {
+fn largest() {
     let mut comparison = Comparison::new();
     comparison.seeded(3, |random, comparison| {
-        for table in [
-            blank(1_024, 31),
-            chain(random, 1_024, 1),
-            all_apart(random, 1_024, 31),
-            scattered(random, 1_000, 32),
-            scattered(random, 500, 64),
-            mostly_unreachable(random, 1_024, 31),
-            copies(random, 680, 47),
-        ] {
-            let table = renamed(random, &table);
+        for table in largest_tables(random) {
             compare_whole(random, comparison, &table);
         }
     });
-    comparison.finish(LARGEST);
+    comparison.finish(2 * LARGEST_TABLES);
 }
 
 /// The length of the table's shrunk file.
@@ -185,29 +172,9 @@ fn slices_of_each_length() {
     comparison.finish(OF_ALL_ROOMS);
 }
 
-fn compare_any(random: &mut Random, comparison: &mut Comparison, times_damaged: usize) {
-    let table = small_table(random);
+/// On a file that may be the table's with damage, with slices of any length.
+pub fn compare_any(random: &mut Random, comparison: &mut Comparison, table: &Table, file: &[u8]) {
     let work = any_room(random, 16 * table.states());
-    let out = any_room(random, shrunk_length(&table));
-    let file = damaged(random, fields(&table), times_damaged);
-    compare(random, comparison, &file, [work, out]);
-}
-
-#[test]
-fn slices_of_any_length() {
-    let comparison = Comparison::generated(52_000_000, OF_ANY_ROOM, |random, comparison| {
-        compare_any(random, comparison, 0);
-    });
-    comparison.met([0, 11, 12], 1_000);
-    comparison.finish(OF_ANY_ROOM);
-}
-
-#[test]
-fn damaged_files() {
-    let comparison = Comparison::generated(53_000_000, DAMAGED, |random, comparison| {
-        let times = random.between(1, 2);
-        compare_any(random, comparison, times);
-    });
-    comparison.met(1..=8, 200);
-    comparison.finish(DAMAGED);
+    let out = any_room(random, shrunk_length(table));
+    compare(random, comparison, file, [work, out]);
 }

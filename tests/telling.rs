@@ -2,12 +2,9 @@
 // Rests on comparison.rs and lent.rs, on the library and the second program, and on generate.rs.
 
 use crate::comparison::{states_of, Comparison};
-use crate::damage::damaged;
-use crate::generate::{
-    all_apart, chain, copies, encode, fields, mostly_unreachable, renamed, scattered, small_table,
-    t1, t2, t3, table, Random, Table,
-};
+use crate::generate::{chain, encode, small_table, t1, t2, t3, table, Random, Table};
 use crate::interface::telling::{self as library, Told};
+use crate::largest::{largest_tables, LARGEST_TABLES};
 use crate::lent::{any_room, enough, refusal_by_room, rooms, Lent};
 use crate::second::automaton::Automaton;
 use crate::second::layering::partition;
@@ -17,11 +14,9 @@ use crate::second::telling as second;
 const OF_THE_PAPER: usize = 6;
 const ALL_PAIRS: usize = 200_000;
 const SOME_PAIRS: usize = 20_000;
-const LARGEST: usize = 30;
 const OF_ALL_ROOMS: usize = 20 * 25;
 const NO_STATES: usize = 10_000;
 const GENERATED: usize = 20_000;
-const DAMAGED: usize = 10_000;
 
 /// What is asked: the two states, and the lengths of the work slice and of the word.
 #[derive(Clone, Copy, Debug)]
@@ -53,7 +48,7 @@ fn compare(
     comparison.demand_lent(file, &what, &word, told.length);
     comparison.demand_work(file, &work, told.number);
     comparison.demand_kept(&kept, "file", &kept, file);
-    comparison.count(told.number);
+    comparison.count("tell", told.number);
     (told, word.left()[..told.length].to_vec())
 }
 
@@ -150,21 +145,15 @@ fn pairs_of_the_largest_tables() {
         let (told, _) = compare_pair(random, comparison, &encode(&chain), [1, 0]);
         let expected = Told::apart(1_022);
         comparison.expect(&encode(&chain), format_args!("tell"), told, expected);
-        for table in [
-            chain,
-            all_apart(random, 1_024, 2),
-            scattered(random, 500, 64),
-            mostly_unreachable(random, 1_024, 31),
-            copies(random, 1_000, 32),
-        ] {
-            let file = encode(&renamed(random, &table));
+        for table in largest_tables(random) {
+            let file = encode(&table);
             for _ in 0..6 {
                 let states = [random.below(table.states()), random.below(table.states())];
                 compare_pair(random, comparison, &file, states);
             }
         }
     });
-    comparison.finish(LARGEST);
+    comparison.finish(6 * LARGEST_TABLES);
 }
 
 /// Of a few pairs of states the one with the longest word, and its length.
@@ -242,9 +231,22 @@ fn states_beyond_the_last() {
     comparison.finish(NO_STATES);
 }
 
-fn compare_any(random: &mut Random, comparison: &mut Comparison, times_damaged: usize) {
-    let table = small_table(random);
-    let (mut states, length) = pair_and_length(random, &table);
+#[test]
+fn generated_tables() {
+    let comparison = Comparison::generated(34_000_000, GENERATED, |random, comparison| {
+        let table = small_table(random);
+        let (states, _) = pair_and_length(random, &table);
+        let file = encode(&table);
+        let (classes, _) = partition(&Automaton::read(&file).expect("an accepted file"));
+        compare_with_classes(random, comparison, &file, &classes, states);
+    });
+    comparison.met([0], GENERATED);
+    comparison.finish(GENERATED);
+}
+
+/// On a file that may be the table's with damage, of any two states, with slices of any length.
+pub fn compare_any(random: &mut Random, comparison: &mut Comparison, table: &Table, file: &[u8]) {
+    let (mut states, length) = pair_and_length(random, table);
     if random.below(8) == 0 {
         states[random.below(2)] = no_state(random, table.states());
     }
@@ -253,25 +255,5 @@ fn compare_any(random: &mut Random, comparison: &mut Comparison, times_damaged: 
         work: any_room(random, 16 * table.states()),
         word: any_room(random, length),
     };
-    let file = damaged(random, fields(&table), times_damaged);
-    compare(random, comparison, &file, asked);
-}
-
-#[test]
-fn generated_tables() {
-    let comparison = Comparison::generated(34_000_000, GENERATED, |random, comparison| {
-        compare_any(random, comparison, 0);
-    });
-    comparison.met([0, 10, 11, 12], 500);
-    comparison.finish(GENERATED);
-}
-
-#[test]
-fn damaged_files() {
-    let comparison = Comparison::generated(35_000_000, DAMAGED, |random, comparison| {
-        let times = random.between(1, 2);
-        compare_any(random, comparison, times);
-    });
-    comparison.met(1..=8, 200);
-    comparison.finish(DAMAGED);
+    compare(random, comparison, file, asked);
 }

@@ -6,6 +6,7 @@ pub mod file;
 pub mod layering;
 pub mod lent;
 pub mod moore;
+pub mod reporting;
 pub mod running;
 pub mod shrinking;
 pub mod splitting;

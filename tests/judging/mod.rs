@@ -1,16 +1,17 @@
 // The tests of the judging of a file and of the field reader.
 // Rests on comparison.rs, on the library and the second program, and on generate.rs and damage.rs.
 
+mod limits;
+
 use crate::comparison::Comparison;
 use crate::damage::damaged;
 use crate::generate::{
-    blank, chain, encode, fields, file_of, scattered, sizes_field, t1, t2, t3, table, Random,
-    T1_SHRUNK,
+    blank, chain, encode, fields, scattered, t1, t2, t3, table, Random, T1_SHRUNK,
 };
 use crate::interface::judging::{self as library, Judged, Part};
 use crate::second::file as second;
 
-const OF_THE_PAPER: usize = 24;
+pub const OF_THE_PAPER: usize = 24;
 const CUT: usize = 1_500;
 const WITH_A_BYTE_CHANGED: usize = 50_000;
 const OF_SIZES_ALONE: usize = 78_000;
@@ -35,7 +36,7 @@ pub const LEAST_FILES: usize = OF_THE_PAPER
     + RANDOM_BEHIND_VALID
     + LARGEST_AND_LONGER;
 
-const T1: [u8; 40] = [
+pub const T1: [u8; 40] = [
     1, 0, 6, 0, 5, 0, 2, 0, 0, 2, 0, 5, 0, 0, 1, 1, 0, 3, 0, 20, 0, 1, 0, 0, 0, 2, 0, 0, 0, 3, 0,
     2, 0, 2, 0, 3, 0, 3, 0, 0,
 ];
@@ -55,7 +56,7 @@ const FIELD_NUMBERS: [usize; 10] = [
 ];
 
 /// Judges the file, which is counted, and asks for its fields.
-fn compare(comparison: &mut Comparison, file: &[u8]) -> Judged {
+pub fn compare(comparison: &mut Comparison, file: &[u8]) -> Judged {
     let kept = file.to_vec();
     let judged = library::judge(file);
     comparison.demand(file, format_args!("judge"), judged, second_judge(file));
@@ -68,7 +69,7 @@ fn compare(comparison: &mut Comparison, file: &[u8]) -> Judged {
         );
     }
     comparison.demand_kept(&kept, "file", &kept, file);
-    comparison.count(judged.number);
+    comparison.count("judge", judged.number);
     judged
 }
 
@@ -111,11 +112,10 @@ fn and_one_more(mut file: Vec<u8>) -> Vec<u8> {
     file
 }
 
-#[test]
-fn samples_of_the_paper() {
+/// Files whose answer the paper gives, or follows from the order in which it judges.
+pub fn samples() -> [(Vec<u8>, Judged); OF_THE_PAPER] {
     let refused = Judged::refused;
-    let mut comparison = Comparison::new();
-    let cases: [(Vec<u8>, Judged); 24] = [
+    [
         (vec![], refused(1, 0)),
         (vec![1, 0], refused(1, 2)),
         (t1_with(&[(0, 2)]), refused(2, 0)),
@@ -140,8 +140,13 @@ fn samples_of_the_paper() {
         (t1_with(&[(35, 5)])[..39].to_vec(), refused(1, 39)),
         (t1_with(&[(4, 0), (8, 5)]), refused(5, 3)),
         (and_one_more(t1_with(&[(39, 5)])), refused(8, 38)),
-    ];
-    for (file, expected) in cases {
+    ]
+}
+
+#[test]
+fn samples_of_the_paper() {
+    let mut comparison = Comparison::new();
+    for (file, expected) in samples() {
         expect(&mut comparison, &file, expected);
     }
     comparison.finish(OF_THE_PAPER);
@@ -200,72 +205,6 @@ fn each_byte_changed_to_every_value() {
     }
     comparison.met([0, 2, 4, 5, 6, 7, 8], 250);
     comparison.finish(WITH_A_BYTE_CHANGED);
-}
-
-fn in_range(states: usize, signs: usize) -> bool {
-    (1..=1_024).contains(&states) && (1..=64).contains(&signs) && states * signs <= 32_000
-}
-
-/// A file that ends with field 1.
-fn compare_sizes(comparison: &mut Comparison, states: usize, signs: usize) {
-    let expected = match in_range(states, signs) {
-        true => Judged::refused(1, 9),
-        false => Judged::refused(5, 3),
-    };
-    expect(
-        comparison,
-        &file_of(&[sizes_field(states, signs, 0)]),
-        expected,
-    );
-}
-
-#[test]
-fn sizes_in_and_out_of_range() {
-    let mut comparison = Comparison::new();
-    for states in 0..=1_100 {
-        for signs in 0..=70 {
-            compare_sizes(&mut comparison, states, signs);
-        }
-    }
-    let far = [255, 256, 257, 1_025, 4_096, 32_000, 32_768, 65_281, 65_535];
-    for states in far {
-        for signs in [0, 1, 64].into_iter().chain(far) {
-            compare_sizes(&mut comparison, states, signs);
-            compare_sizes(&mut comparison, signs, states);
-        }
-    }
-    comparison.finish(OF_SIZES_ALONE);
-}
-
-/// Whole files of these sizes, with the start at and beyond its own limit too.
-fn compare_whole(comparison: &mut Comparison, states: usize, signs: usize) {
-    let mut table = blank(states, signs);
-    for start in [0, states.saturating_sub(1), states, states + 1] {
-        table.start = start;
-        let expected = match (in_range(states, signs), start < states) {
-            (true, true) => Judged::accepted(states, signs, start),
-            (true, false) => Judged::refused(6, 7),
-            (false, _) => Judged::refused(5, 3),
-        };
-        expect(comparison, &encode(&table), expected);
-    }
-}
-
-#[test]
-fn whole_files_at_and_beyond_each_limit() {
-    let mut comparison = Comparison::new();
-    for states in [0, 1, 2, 499, 500, 501, 1_000, 1_001, 1_024, 1_025] {
-        for signs in [0, 1, 2, 31, 32, 33, 64, 65] {
-            compare_whole(&mut comparison, states, signs);
-        }
-    }
-    for signs in 1..=64 {
-        let most_states = (32_000 / signs).min(1_024);
-        for states in most_states - 1..=most_states + 1 {
-            compare_whole(&mut comparison, states, signs);
-        }
-    }
-    comparison.finish(AT_THE_LIMITS);
 }
 
 #[test]
@@ -328,46 +267,4 @@ fn random_bytes_behind_a_valid_beginning() {
     });
     comparison.met(1..=8, 100);
     comparison.finish(RANDOM_BEHIND_VALID);
-}
-
-#[test]
-fn the_largest_file_and_longer_ones() {
-    let mut comparison = Comparison::new();
-    comparison.seeded(5, |random, comparison| {
-        let file = encode(&scattered(random, 1_000, 32));
-        assert_eq!(file.len(), 65_015);
-        for length in (0..1_100)
-            .chain((1_100..65_000).step_by(97))
-            .chain(65_000..65_015)
-        {
-            expect(comparison, &file[..length], Judged::refused(1, length));
-        }
-        bad_marks_and_next_states(comparison, file.clone());
-        for more in [1, 2, 3, 520, 521, 522, 65_536, 1 << 20] {
-            let mut longer = file.clone();
-            longer.extend(random.bytes(more));
-            expect(comparison, &longer, Judged::refused(3, 65_015));
-            let mut longer = T1.to_vec();
-            longer.resize(T1.len() + more, 0);
-            expect(comparison, &longer, Judged::refused(3, 40));
-            compare(comparison, &random.bytes(65_015 + more));
-        }
-    });
-    comparison.finish(LARGEST_AND_LONGER);
-}
-
-/// Each in turn the first of its kind in the file of 1,000 states and 32 signs.
-fn bad_marks_and_next_states(comparison: &mut Comparison, mut file: Vec<u8>) {
-    let last = file.len() - 2;
-    file[last..].fill(255);
-    for place in (1_015..last).step_by(82).chain([last]) {
-        let kept = [file[place], file[place + 1]];
-        file[place..place + 2].copy_from_slice(&1_000_u16.to_be_bytes());
-        expect(comparison, &file, Judged::refused(8, place));
-        file[place..place + 2].copy_from_slice(&kept);
-    }
-    for place in (12..1_012).rev() {
-        file[place] = 2;
-        expect(comparison, &file, Judged::refused(7, place));
-    }
 }
