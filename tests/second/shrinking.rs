@@ -54,7 +54,7 @@ pub fn reachable_classes(automaton: &Automaton, classes: &[usize]) -> Vec<usize>
         .collect()
 }
 
-fn shrunk_file(automaton: &Automaton, classes: &[usize], rows: &[usize]) -> Vec<u8> {
+pub fn shrunk_file(automaton: &Automaton, classes: &[usize], rows: &[usize]) -> Vec<u8> {
     let row_of = |state: usize| {
         rows.binary_search(&classes[state])
             .expect("a reachable class")

@@ -1,11 +1,12 @@
 -- Laws of `tab` and `flat`: lengths, what stands at a place, a list as the tab of its elements.
 use mathlib.Core.Path.{_≡_, refl, sym, ap, ap₂, _∙_}
-use mathlib.Core.List.{List, _∷_, _++_}
+use mathlib.Core.List.{List, [], _∷_, _++_, append-assoc, append-nil}
 use Prim.Native.Nat.{ℕ, zero, suc, _+_, _*_, _≤_, _<_}
 use native.Mathlib.Nat.{zero-add, add-zero, add-suc, suc-add, suc-mul, zero-mul, add-comm, le-of-suc-le-suc, not-suc-le-zero}
+use native.Mathlib.Numerals.{add-one}
 use native.Mathlib.Omega.{arith}
-use lib.ListN.{length, getD, drop, length-append, List·getD-append}
-use lib.Seq.{drop-cons, getD-append-add}
+use lib.ListN.{length, getD, take, drop, length-append, List·getD-append}
+use lib.Seq.{take-suc, drop-cons, getD-append-add}
 use Rattle.counting.specs.Lists.{tab, flat}
 
 pub tab-length {ℓ} : {A : Type ℓ} (n : ℕ) (f : ℕ → A) → length (tab n f) ≡ n
@@ -36,6 +37,29 @@ tab-add (suc n) m f =
     rw suc-add
     (ap (λ (l : List _). f zero ∷ l)
     (tab-add n m (λ i. f (suc i)) ∙ ap (λ (l : List _). tab n (λ i. f (suc i)) ++ l) (tab-cong m (λ i l. ap f (sym (suc-add n i))))))
+
+-- one element more
+pub tab-more {ℓ} : {A : Type ℓ} (n : ℕ) (f : ℕ → A) → tab (n + 1) f ≡ tab n f ++ f n ∷ []
+unfolding tab
+tab-more n f = tab-add n 1 f ∙ ap (λ (i : ℕ). tab n f ++ f i ∷ []) (add-zero n)
+
+pub take-more {ℓ} : {A : Type ℓ} (xs : List A) (i : ℕ) (d : A) → i < length xs → take (i + 1) xs ≡ take i xs ++ getD xs i d ∷ []
+take-more xs i d l = ap (λ (j : ℕ). take j xs) (add-one i) ∙ take-suc xs i d l
+
+-- one list more
+flat-suc {ℓ} : {A : Type ℓ} (n : ℕ) (g : ℕ → List A) → flat (suc n) g ≡ flat n g ++ g n
+unfolding flat
+flat-suc zero g = append-nil (g zero)
+flat-suc (suc n) g = ap (λ (s : List _). g zero ++ s) (flat-suc n (λ i. g (suc i))) ∙ sym (append-assoc (g zero) _ _)
+
+pub flat-more {ℓ} : {A : Type ℓ} (n : ℕ) (g : ℕ → List A) → flat (n + 1) g ≡ flat n g ++ g n
+flat-more n g = rw (add-one n) (flat-suc n g)
+
+-- a list is the tab of its elements
+pub tab-list {ℓ} : {A : Type ℓ} (d : A) (xs : List A) → tab (length xs) (λ i. getD xs i d) ≡ xs
+unfolding tab
+tab-list d [] = refl
+tab-list d (x ∷ xs) = ap (λ (l : List _). x ∷ l) (tab-list d xs)
 
 -- what is left of a list from a place on, as its next n elements and the rest
 pub drop-tab {ℓ} : {A : Type ℓ} (d : A) (n i : ℕ) (xs : List A) → i + n ≤ length xs → drop i xs ≡ tab n (λ j. getD xs (i + j) d) ++ drop (i + n) xs

@@ -7,7 +7,7 @@ use Prim.Native.Nat.{ℕ, suc, _+_, _*_, _<_}
 use native.Mathlib.Nat.{not-suc-le-zero}
 use native.Mathlib.Decide.{ℕ-discrete}
 use native.Mathlib.Omega.{arith}
-use Rattle.counting.proofs.Cases.{by-test}
+use Rattle.counting.proofs.Cases.{by-test, neither}
 use Rattle.automaton.specs.Machine.{Machine}
 use Rattle.layering.specs.Work.{this, later, head, born, from, Named, Emptied, Advanced, Rounded}
 
@@ -90,10 +90,6 @@ module _ (M : Machine) (w v u : List ℕ) (round q : ℕ) (l : q < M .size) (cha
           let g : this w q ≡ q = subst (λ (x : ℕ). (x < suc q → later n u x ≡ x → this w x ≡ x)) e h (omega arith) (b .0) in
           absurd (omega (arith, b .1, r .same q l)))
           (λ f. f)
-
-  neither : (x y : Bool) → (x || y) ≡ false → (x ≡ false) × (y ≡ false)
-  neither true y e = absurd (true≢false e)
-  neither false y e = (refl, e)
 
   busy : (x y : Bool) → x ≡ changed → y ≡ new → (x || y) ≡ true → (x : ℕ) × (x < suc q) × (later n u x ≡ x) × (this w x < x)
   busy true y e f t =

@@ -2,16 +2,16 @@
 use mathlib.Core.Path.{_≡_, refl, sym, ap, _∙_}
 use mathlib.Core.List.{List, [], _∷_}
 use Prim.Native.Nat.{ℕ, _+_, _≤_, _<_}
-use native.Mathlib.Numerals.{add-one}
 use native.Mathlib.Decide.{decLt}
 use native.Mathlib.Omega.{arith}
 use borrow.Author.Tests.{lt-ltb, le-ltb, lt-leb, leb-false}
 use lib.Dec.{leb}
 use lib.ListN.{length, take}
-use lib.Seq.{take-suc, take-all}
+use lib.Seq.{take-all}
 use Rattle.counting.specs.Lists.{at}
 use Rattle.counting.specs.Least.{pick}
 use Rattle.counting.proofs.Leasts.{least-is, least-none}
+use Rattle.counting.proofs.Tabs.{take-more}
 use Rattle.automaton.specs.Machine.{Machine}
 use Rattle.automaton.specs.Words.{Word, steps}
 use Rattle.automaton.proofs.Walks.{steps-append, word-each, word-at}
@@ -21,7 +21,7 @@ use Rattle.running.specs.Running.{badSign, walked}
 module _ (M : Machine) (q : ℕ) (w : List ℕ) where
   pub steps-more : (i : ℕ) → i < length w → steps M q (take (i + 1) w) ≡ M .next (steps M q (take i w)) (at w i)
   unfolding steps
-  steps-more i l = ap (steps M q) (ap (λ (j : ℕ). take j w) (add-one i) ∙ take-suc w i 0 l) ∙ steps-append M q (take i w) (at w i ∷ [])
+  steps-more i l = ap (steps M q) (take-more w i 0 l) ∙ steps-append M q (take i w) (at w i ∷ [])
 
   pub steps-whole : (i : ℕ) → length w ≤ i → steps M q (take i w) ≡ steps M q w
   steps-whole i l = ap (steps M q) (take-all i w l)

@@ -3,12 +3,11 @@
 use mathlib.Core.Path.{_≡_, refl, sym, ap, ap₂, _∙_}
 use mathlib.Core.List.{List, [], _∷_, _++_, append-assoc}
 use Prim.Native.Nat.{ℕ, zero, suc, _+_, _*_, _/_, _%_, _≤_, _<_}
-use native.Mathlib.Numerals.{add-one}
 use native.Mathlib.Omega.{arith}
 use lib.ListN.{length, set, take, length-append}
-use lib.Seq.{sets, take-suc, take-all, length-take-le}
+use lib.Seq.{sets, take-all, length-take-le}
 use Rattle.counting.specs.Lists.{at, tab, flat}
-use Rattle.counting.proofs.Tabs.{flat-tab, flat-cong}
+use Rattle.counting.proofs.Tabs.{tab-list, take-more, flat-tab, flat-cong}
 use Rattle.lending.specs.Memory.{written}
 use Rattle.lending.specs.Pairs.{pair}
 use Rattle.lending.proofs.Grids.{grid}
@@ -16,18 +15,8 @@ use Rattle.lending.proofs.Memories.{written-length, written-front}
 use Rattle.table.specs.Encoding.{fieldOf, encode}
 use Rattle.table.proofs.Encodings.{encoded-length}
 use Rattle.shrinking.specs.Written.{sizesBytes}
-use Rattle.shrinking.proofs.Stores.{sets-append, sets-written, sizes-length}
+use Rattle.shrinking.proofs.Stores.{sets-append, sets-pair, sets-written, field-stored, sizes-length}
 use Rattle.selftest.specs.Samples.{sample, pairs}
-
--- a list is the tab of its elements
-tab-list : (xs : List ℕ) → tab (length xs) (at xs) ≡ xs
-unfolding tab
-tab-list [] = refl
-tab-list (x ∷ xs) = ap (λ (l : List ℕ). x ∷ l) (tab-list xs)
-
--- one element more
-take-more : (xs : List ℕ) (i : ℕ) → i < length xs → take (i + 1) xs ≡ take i xs ++ at xs i ∷ []
-take-more xs i l = ap (λ (j : ℕ). take j xs) (add-one i) ∙ take-suc xs i 0 l
 
 -- numbers of two bytes, one behind the other
 pairs-append : (xs ys : List ℕ) → pairs (xs ++ ys) ≡ pairs xs ++ pairs ys
@@ -53,7 +42,7 @@ pairs-flat (suc n) g = pairs-append (g zero) _ ∙ ap (λ (l : List ℕ). pairs 
 -- n × k numbers are n rows of k
 pairs-grid : (n k : ℕ) (xs : List ℕ) → length xs ≡ n * k → pairs xs ≡ grid n k (λ q a. at xs (q * k + a))
 pairs-grid n k xs e =
-    ap pairs (sym (tab-list xs) ∙ ap (λ (m : ℕ). tab m (at xs)) e ∙ sym (flat-tab k n _ (at xs) (λ q l. refl)))
+    ap pairs (sym (tab-list 0 xs) ∙ ap (λ (m : ℕ). tab m (at xs)) e ∙ sym (flat-tab k n _ (at xs) (λ q l. refl)))
     ∙ pairs-flat n (λ q. tab k (λ a. at xs (q * k + a)))
     ∙ flat-cong n (λ q l. pairs-tab k (λ a. at xs (q * k + a)))
 
@@ -66,7 +55,7 @@ module _ (out xs : List ℕ) (p i : ℕ) (l : i < length xs) (w : List ℕ) wher
   byte-more e =
       ap (λ (s : List ℕ). set s (p + i) (at xs i)) e
       ∙ sets-append out p (take i xs) (at xs i ∷ []) (p + i) (ap (λ (m : ℕ). p + m) (sym front))
-      ∙ ap (sets out p) (sym (take-more xs i l))
+      ∙ ap (sets out p) (sym (take-more xs i 0 l))
 
   -- one number of two bytes more
   pub pair-more : (j v : ℕ) (z : List ℕ) → w ≡ sets out p (pairs (take i xs)) → j ≡ p + 2 * i → v ≡ at xs i
@@ -75,28 +64,16 @@ module _ (out xs : List ℕ) (p i : ℕ) (l : i < length xs) (w : List ℕ) wher
   unfolding pairs pair
   pair-more j v z e f g h =
       h
-      ∙ ap (λ (m : ℕ). set (set w j (v / 256)) m (v % 256)) (add-one j)
+      ∙ sets-pair w j v
       ∙ ap₂ (λ (s : List ℕ) (x : ℕ). sets s j (pair x)) e g
       ∙ sets-append out p (pairs (take i xs)) (pair (at xs i)) j (omega (arith, f, pairs-length (take i xs), front))
-      ∙ ap (sets out p) (sym (ap pairs (take-more xs i l) ∙ pairs-append (take i xs) (at xs i ∷ [])))
-
--- the head of field 3, and the next states behind it
-field-stored : (nexts v : List ℕ) (p : ℕ) (w z : List ℕ)
-    → w ≡ set (set (set v p 3) (p + 1) (2 * length nexts / 256)) (p + 1 + 1) (2 * length nexts % 256)
-    → z ≡ sets w (p + 3) (pairs nexts)
-    → z ≡ sets v p (fieldOf 3 (pairs nexts))
-unfolding fieldOf pair
-field-stored nexts v p w z e f =
-    f
-    ∙ ap (λ (s : List ℕ). sets s (p + 3) (pairs nexts)) (e ∙ rw (add-one (p + 1), add-one p) refl)
-    ∙ sets-append v p (3 ∷ pair (2 * length nexts)) (pairs nexts) (p + 3) refl
-    ∙ ap (λ (m : ℕ). sets v p (3 ∷ pair m ++ pairs nexts)) (sym (pairs-length nexts))
+      ∙ ap (sets out p) (sym (ap pairs (take-more xs i 0 l) ∙ pairs-append (take i xs) (at xs i ∷ [])))
 
 module _ (k : ℕ) (marks nexts : List ℕ) (e : length nexts ≡ length marks * k) where
   parts : encode (sample k marks nexts) ≡ sizesBytes (length marks) k 0 ++ marks ++ fieldOf 3 (pairs nexts)
   unfolding encode fieldOf pair sizesBytes
   parts =
-      ap₂ (λ (ms ns : List ℕ). fieldOf 1 (pair (length marks) ++ pair k ++ pair 0) ++ fieldOf 2 ms ++ fieldOf 3 ns) (tab-list marks) (sym (pairs-grid (length marks) k nexts e))
+      ap₂ (λ (ms ns : List ℕ). fieldOf 1 (pair (length marks) ++ pair k ++ pair 0) ++ fieldOf 2 ms ++ fieldOf 3 ns) (tab-list 0 marks) (sym (pairs-grid (length marks) k nexts e))
 
   -- the parts stored one behind the other are the file at the front
   pub table-stored : (out u v w z : List ℕ) → 12 + length marks + 3 + 2 * length nexts ≤ length out
@@ -106,7 +83,7 @@ module _ (k : ℕ) (marks nexts : List ℕ) (e : length nexts ≡ length marks *
       → z ≡ sets w (12 + length marks + 3) (pairs nexts)
       → z ≡ written (encode (sample k marks nexts)) out
   table-stored out u v w z room a b c d =
-      field-stored nexts v (12 + length marks) w z c d
+      field-stored v (pairs nexts) (12 + length marks) (2 * length nexts) w z (pairs-length nexts) c d
       ∙ ap (λ (s : List ℕ). sets s (12 + length marks) field) (b ∙ ap (λ (s : List ℕ). sets s 12 marks) a ∙ sets-append out 0 sizes marks 12 (sizes-length (length marks) k 0))
       ∙ sets-append out 0 (sizes ++ marks) field (12 + length marks) (omega (arith, length-append sizes marks, sizes-length (length marks) k 0))
       ∙ ap (sets out 0) (sym parts)

@@ -168,9 +168,9 @@ pub fn rows_are(file: &[u8], rows: usize) -> bool {
     size.rows == rows
 }
 
-// Whether the report has these numbers: m, r, takes, entries and rows.
-pub fn found_are(file: &[u8], due: &[usize]) -> bool {
-    if due.len() != 5 {
+// Whether the report has these numbers, n, k, start, m, r, takes, entries and rows, and these class names.
+pub fn report_is(file: &[u8], due: &[usize], names: &[u16]) -> bool {
+    if due.len() != 8 {
         return false;
     }
     let mut class = [0u16; 9];
@@ -181,9 +181,13 @@ pub fn found_are(file: &[u8], due: &[usize]) -> bool {
     let Summary::Found(found) = answer else {
         return false;
     };
-    found.classes == due[0]
-        && found.rounds == due[1]
-        && found.takes == due[2]
-        && found.entries == due[3]
-        && found.rows == due[4]
+    found.sizes.states == due[0]
+        && found.sizes.signs == due[1]
+        && found.sizes.start == due[2]
+        && found.classes == due[3]
+        && found.rounds == due[4]
+        && found.takes == due[5]
+        && found.entries == due[6]
+        && found.rows == due[7]
+        && begins_with(&class, names)
 }

@@ -50,10 +50,11 @@ pub fn t1_classes(counts: Counts) -> Counts
         b"* T1: 4 takes looking at 2, 4, 3, 0 entries",
         takes,
     );
+    let reported = asking::report_is(&t1, &[5, 2, 0, 3, 1, 4, 9, 3], &[0, 1, 2, 2, 1]);
     show(
         counts,
-        b"T1: the report finds 3 1 4 9 3",
-        asking::found_are(&t1, &[3, 1, 4, 9, 3]),
+        b"T1: the report, 5 2 0, 3 1 4 9 3, 0 1 2 2 1",
+        reported,
     )
 }
 

@@ -11,15 +11,12 @@ use borrow.Author.Tests.{eq-eqb, ne-eqb, eqb-true, eqb-false}
 use lib.Dec.{eqb}
 use lib.ListN.{length, set, length-set}
 use lib.Seq.{getD-set-same, getD-set-other}
+use Rattle.counting.proofs.Cases.{neither}
 use Rattle.counting.specs.Lists.{at}
 use Rattle.counting.specs.Least.{pick}
 use Rattle.counting.specs.Counts.{any}
 use Rattle.automaton.specs.Machine.{Machine}
 use Rattle.shrinking.specs.Reached.{leadsTo, Spread}
-
-pub neither : (x y : Bool) → (x || y) ≡ false → (x ≡ false) × (y ≡ false)
-neither true y e = absurd (true≢false e)
-neither false y e = (refl, e)
 
 pub spread-none : (M : Machine) (q : ℕ) (w : List ℕ) → Spread M q 0 w w false
 unfolding leadsTo any pick

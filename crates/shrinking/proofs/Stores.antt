@@ -1,15 +1,15 @@
 -- Bytes stored one behind the other: stores behind stores, a number of two bytes, a file at the front; and each store of the writing of
 -- the rows as one part more. Rests on the laws of `tab` and `flat`.
 use mathlib.Core.Path.{_≡_, refl, sym, ap, _∙_}
-use mathlib.Core.List.{List, [], _∷_, _++_, append-assoc, append-nil}
-use Prim.Native.Nat.{ℕ, zero, suc, _+_, _*_, _/_, _%_, _≤_, _<_}
+use mathlib.Core.List.{List, [], _∷_, _++_}
+use Prim.Native.Nat.{ℕ, suc, _+_, _*_, _/_, _%_, _≤_, _<_}
 use native.Mathlib.Nat.{zero-add, add-zero, add-suc, suc-add, suc-mul, mul-comm, mul-le-mul-right}
 use native.Mathlib.Numerals.{add-one}
 use native.Mathlib.Omega.{arith}
 use lib.ListN.{length, set, drop}
 use lib.Seq.{sets, sets-eq}
 use Rattle.counting.specs.Lists.{at, tab, flat}
-use Rattle.counting.proofs.Tabs.{tab-length, tab-add, flat-length}
+use Rattle.counting.proofs.Tabs.{tab-length, tab-more, flat-length, flat-more}
 use Rattle.lending.specs.Memory.{written}
 use Rattle.lending.specs.Pairs.{pairAt, pair}
 use Rattle.lending.proofs.Grids.{grid-length}
@@ -17,28 +17,27 @@ use Rattle.table.specs.Encoding.{machineIn, Held, fieldOf}
 use Rattle.shrinking.specs.Reached.{rowAt}
 use Rattle.shrinking.specs.Written.{Writable, rowOf, sizesBytes, marksBytes, rowBytes, rowsBytes}
 
--- one element more
-tab-more : (n : ℕ) (f : ℕ → ℕ) → tab (n + 1) f ≡ tab n f ++ f n ∷ []
-unfolding tab
-tab-more n f = tab-add n 1 f ∙ ap (λ (i : ℕ). tab n f ++ f i ∷ []) (add-zero n)
-
-flat-suc : (n : ℕ) (g : ℕ → List ℕ) → flat (suc n) g ≡ flat n g ++ g n
-unfolding flat
-flat-suc zero g = append-nil (g zero)
-flat-suc (suc n) g = ap (λ (s : List ℕ). g zero ++ s) (flat-suc n (λ i. g (suc i))) ∙ sym (append-assoc (g zero) _ _)
-
-flat-more : (n : ℕ) (g : ℕ → List ℕ) → flat (n + 1) g ≡ flat n g ++ g n
-flat-more n g = rw (add-one n) (flat-suc n g)
-
 -- stores behind stores
 pub sets-append : (l : List ℕ) (i : ℕ) (xs ys : List ℕ) (j : ℕ) → j ≡ i + length xs → sets (sets l i xs) j ys ≡ sets l i (xs ++ ys)
 sets-append l i [] ys j e = ap (λ (p : ℕ). sets l p ys) (e ∙ add-zero i)
 sets-append l i (x ∷ xs) ys j e = sets-append (set l i x) (suc i) xs ys j (e ∙ add-suc i (length xs) ∙ sym (suc-add i (length xs)))
 
 -- the two bytes of a number
-sets-pair : (l : List ℕ) (i v : ℕ) → set (set l i (v / 256)) (i + 1) (v % 256) ≡ sets l i (pair v)
+pub sets-pair : (l : List ℕ) (i v : ℕ) → set (set l i (v / 256)) (i + 1) (v % 256) ≡ sets l i (pair v)
 unfolding pair
 sets-pair l i v = ap (λ (j : ℕ). set (set l i (v / 256)) j (v % 256)) (add-one i)
+
+-- the head of field 3, and its body behind it
+pub field-stored : (out body : List ℕ) (p size : ℕ) (v w : List ℕ) → length body ≡ size
+    → v ≡ set (set (set out p 3) (p + 1) (size / 256)) (p + 1 + 1) (size % 256)
+    → w ≡ sets v (p + 3) body
+    → w ≡ sets out p (fieldOf 3 body)
+unfolding fieldOf pair
+field-stored out body p size v w long e f =
+    f
+    ∙ ap (λ (s : List ℕ). sets s (p + 3) body) (e ∙ sets-pair (set out p 3) (p + 1) size ∙ ap (λ (j : ℕ). sets (set out p 3) j (pair size)) (add-one p))
+    ∙ sets-append out p (3 ∷ pair size) body (p + 3) refl
+    ∙ ap (λ (l : ℕ). sets out p (3 ∷ pair l ++ body)) (sym long)
 
 -- a file at the front
 pub sets-written : (l file : List ℕ) → length file ≤ length l → sets l 0 file ≡ written file l
@@ -106,7 +105,7 @@ module _ (n : ℕ) (work out : List ℕ) where
     unfolding rowsBytes flat
     rows-none p = refl
 
-    rows-length : (i : ℕ) → length (rowsBytes n k nexts work i) ≡ 2 * (i * k)
+    pub rows-length : (i : ℕ) → length (rowsBytes n k nexts work i) ≡ 2 * (i * k)
     unfolding rowsBytes rowBytes
     rows-length i = grid-length i k (λ j a. rowOf n work (pairAt nexts (2 * (rowAt n work j * k + a))))
 
@@ -117,17 +116,6 @@ module _ (n : ℕ) (work out : List ℕ) where
         ap (λ (s : List ℕ). sets s (p + 2 * (i * k)) (rowBytes n k nexts work i k)) e
         ∙ sets-append out p (rowsBytes n k nexts work i) (rowBytes n k nexts work i k) (p + 2 * (i * k)) (ap (λ (m : ℕ). p + m) (sym (rows-length i)))
         ∙ ap (sets out p) (sym (flat-more i (λ j. rowBytes n k nexts work j k)))
-
-    -- the head of field 3, and the rows behind it
-    pub rows-stored : (p rows : ℕ) (v w : List ℕ) → v ≡ set (set (set out p 3) (p + 1) (2 * (rows * k) / 256)) (p + 1 + 1) (2 * (rows * k) % 256)
-        → w ≡ sets v (p + 3) (rowsBytes n k nexts work rows)
-        → w ≡ sets out p (fieldOf 3 (rowsBytes n k nexts work rows))
-    unfolding fieldOf pair
-    rows-stored p rows v w e f =
-        f
-        ∙ ap (λ (s : List ℕ). sets s (p + 3) (rowsBytes n k nexts work rows)) (e ∙ sets-pair (set out p 3) (p + 1) (2 * (rows * k)) ∙ ap (λ (j : ℕ). sets (set out p 3) j (pair (2 * (rows * k)))) (add-one p))
-        ∙ sets-append out p (3 ∷ pair (2 * (rows * k))) (rowsBytes n k nexts work rows) (p + 3) refl
-        ∙ ap (λ (l : ℕ). sets out p (3 ∷ pair l ++ rowsBytes n k nexts work rows)) (sym (rows-length rows))
 
 -- the rows before one, and the row, are among the rows
 pub row-within : (rows k i : ℕ) → i < rows → i * k + k ≤ rows * k

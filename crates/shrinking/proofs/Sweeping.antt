@@ -15,7 +15,7 @@ use lib.Seq.{getD-set-same, getD-set-other}
 use Rattle.counting.specs.Lists.{at}
 use Rattle.counting.specs.Least.{pick}
 use Rattle.counting.specs.Counts.{count}
-use Rattle.counting.proofs.Cases.{by-test}
+use Rattle.counting.proofs.Cases.{by-test, neither}
 use Rattle.counting.proofs.Tallies.{any-iff, count-more}
 use Rattle.automaton.specs.Machine.{Machine, Lawful}
 use Rattle.automaton.specs.Words.{Word, steps, Reached}
@@ -23,7 +23,6 @@ use Rattle.automaton.proofs.Quotients.{reached-start, reached-next}
 use Rattle.lending.specs.Memory.{cleared}
 use Rattle.lending.proofs.Memories.{cleared-length, cleared-at, cleared-beyond}
 use Rattle.shrinking.specs.Reached.{leadsTo, Spread, SpreadMarked, Sound, Swept, Found}
-use Rattle.shrinking.proofs.Spreading.{neither}
 
 -- What one state of a sweep leaves: marks are only set, and its own next states are marked where it is.
 record Stepped (M : Machine) (q : ℕ) (before after : List ℕ) (new : Bool) : Type 0 where

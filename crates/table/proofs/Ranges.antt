@@ -1,16 +1,13 @@
 -- `outside` is true exactly of the sizes that are not in range.
 use mathlib.Core.Path.{_≡_, refl, sym, _∙_}
 use mathlib.Core.Logic.{_≢_}
-use mathlib.Core.Bool.{Bool, true, false, _||_, true≢false}
+use mathlib.Core.Bool.{Bool, true, false, true≢false}
 use Prim.Native.Nat.{ℕ, _*_}
 use native.Mathlib.Omega.{arith}
 use borrow.Author.Tests.{ltb-false, eqb-false, le-ltb, ne-eqb}
+use Rattle.counting.proofs.Cases.{neither}
 use Rattle.table.specs.Judging.{outside}
 use Rattle.table.specs.Rows.{InRange}
-
-neither : (a b : Bool) → (a || b) ≡ false → (a ≡ false) × (b ≡ false)
-neither true b e = absurd (true≢false e)
-neither false b e = (refl, e)
 
 pub in-range : (n k : ℕ) → outside n k ≡ false → InRange n k
 unfolding outside

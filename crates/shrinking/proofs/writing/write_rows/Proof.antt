@@ -6,7 +6,7 @@ use denote.Ref.{now}
 use lib.ListN.{length, length-set}
 use lib.Seq.{sets, length-sets}
 use Rattle.shrinking.specs.Written.{rowsBytes}
-use Rattle.shrinking.proofs.Stores.{rows-none, rows-more, rows-stored, rows-most}
+use Rattle.shrinking.proofs.Stores.{rows-none, rows-more, rows-length, field-stored, rows-most}
 use native.Mathlib.Omega.{arith}
 use Rattle.shrinking.proofs.writing.write_rows.Statement.{statement}
 use Rattle.shrinking.proofs.writing.write_rows.Tie as tie
@@ -88,7 +88,8 @@ returns c =
     let z = a .sizes in
     let o = c .before .before .before .before .put-pair .last .0 in
     let e : l .i ≡ a .rows = omega arith in
-    rows-stored (z .states) (now (a .work)) (now (a .out)) (z .signs) (now (a .nexts)) (12 + a .rows) (a .rows) o (l .out) (c .before .before .before .before .put-pair .ensures)
+    let body = rowsBytes (z .states) (z .signs) (now (a .nexts)) (now (a .work)) (a .rows) in
+    field-stored (now (a .out)) body (12 + a .rows) _ o (l .out) (rows-length (z .states) (now (a .work)) (now (a .out)) (z .signs) (now (a .nexts)) (a .rows)) (c .before .before .before .before .put-pair .ensures)
     (l .inv .2 ∙ ap (λ (i : ℕ). sets o (12 + a .rows + 3) (rowsBytes (z .states) (z .signs) (now (a .nexts)) (now (a .work)) i)) e)
 
 pub write-rows-spec : {M : Type 1} → statement M
