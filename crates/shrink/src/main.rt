@@ -1,9 +1,8 @@
 // Reads a table from standard input and writes the shrunk file to standard output. A refused file gets one line on
 // standard error, `refused NUMBER PLACE`, and nothing on standard output.
 ghost use mathlib.Core.Path.{_≡_};
-ghost use Prim.Native.Nat.{min};
 ghost use lib.ListN.{length};
-ghost use Rattle.io.specs.Counts.{Counts};
+ghost use Rattle.shrinking.specs.Shrunk.{shrunk};
 use libc::STDERR_FILENO;
 use libc::STDIN_FILENO;
 use libc::STDOUT_FILENO;
@@ -18,12 +17,11 @@ fn work_numbers() -> [u16; 16384]
     [0; 16384]
 }
 
-// The length of the file made, as a count of out's bytes: by its contract `shrink` makes no file that is longer than out.
-fn within(made: usize, out: &[u8]) -> usize
-    ensures { λ r. ⌜ Counts r (now (out .entry)) ⌝ }
-    ensures { λ r. ⌜ r ≡ min made (length (now (out .entry))) ⌝ }
+// Writes the bytes of the shrunk file to standard output. The file itself is lent for the contract alone.
+fn write_shrunk(file: &[u8], bytes: &[u8])
+    requires { ⌜ now bytes ≡ shrunk (now file) ⌝ }
 {
-    if made < out.len() { made } else { out.len() }
+    io::write_all(STDOUT_FILENO, bytes);
 }
 
 fn print_refusal(refusal: Refusal) {
@@ -35,20 +33,24 @@ fn print_refusal(refusal: Refusal) {
     io::write_all(STDERR_FILENO, b"\n");
 }
 
-fn main() {
-    // An accepted file has at most 65,015 bytes, and no refusal looks behind the 65,536 that the buffer has.
-    let mut file = io::large_buffer();
-    let read = io::read_full(STDIN_FILENO, &mut file);
+// Writes the shrunk file, or the line of the refusal.
+fn shrink_file(file: &[u8]) {
     let mut work = work_numbers();
     let mut out = io::large_buffer();
-    let answer = shrinking::shrinks::shrink(&file[..read], &mut work, &mut out);
+    let answer = shrinking::shrinks::shrink(file, &mut work, &mut out);
     match answer {
         Shrinking::Made(size) => {
-            let length = within(size.length, &out);
-            io::write_all(STDOUT_FILENO, &out[..length]);
+            write_shrunk(file, &out[..size.length]);
         }
         Shrinking::Refused(refusal) => {
             print_refusal(refusal);
         }
     }
+}
+
+fn main() {
+    // An accepted file has at most 65,015 bytes, and no refusal looks behind the 65,536 that the buffer has.
+    let mut file = io::large_buffer();
+    let read = io::read_full(STDIN_FILENO, &mut file);
+    shrink_file(&file[..read]);
 }

@@ -8,4 +8,5 @@ pub mod Stores
 pub mod Spelling
 pub mod Finding
 pub mod ShrinkWays
+pub mod Making
 pub mod Uniqueness

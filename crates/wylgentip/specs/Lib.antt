@@ -1,2 +1,3 @@
--- The answers of the C interface.
+-- The answers of the C interface, and the three demands.
 pub mod Flat
+pub mod Demands

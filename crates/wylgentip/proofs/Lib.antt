@@ -1,0 +1,3 @@
+-- The three demands.
+pub mod Listed
+pub mod Demands
