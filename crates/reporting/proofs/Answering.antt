@@ -21,14 +21,14 @@ use Rattle.refining.specs.Run.{runTakes, runEntries, allLists, allTakes, allEnt
 use Rattle.refining.proofs.Demand.{wholeTakes}
 use Rattle.lending.specs.Memory.{cleared, written}
 use Rattle.lending.proofs.Memories.{written-front}
-use Rattle.table.specs.Answers.{Said, gives, refuses, whenGiven}
+use Rattle.table.specs.Answers.{Said, gives, refuses}
 use Rattle.table.specs.Judging.{judged, statesOf, signsOf, startOf, _andThen_}
 use Rattle.table.specs.Leaving.{Left, left}
 use Rattle.table.specs.Rows.{Right, InRange}
 use Rattle.table.specs.Encoding.{machineOf}
 use Rattle.table.specs.Accepted.{Good}
 use Rattle.table.specs.declared.answer.Sizes.{Sizes}
-use Rattle.table.proofs.Leavings.{file-given, refuses-not, left-said}
+use Rattle.table.proofs.Leavings.{not-refused, file-given, refuses-not, left-said}
 use Rattle.table.proofs.Refusals.{accepted-exactly}
 use Rattle.layering.specs.Calls.{layersOf, layersLeave}
 use Rattle.splitting.specs.StartCall.{startLeaves}
@@ -40,17 +40,10 @@ use Rattle.shrinking.specs.Calls.{shrinkOf, shrinkLeaves}
 use Rattle.shrinking.proofs.Promises.{shrunk-no-longer}
 use Rattle.reporting.specs.Reports.{Reported, reportOf}
 
--- what is given is not refused
-pub given-not-refused : {vs : List ℕ} {number place : ℕ} → refuses number place ≡ gives vs → ⊥
-unfolding whenGiven
-given-not-refused e =
-    let z : _≡_ {A = ℕ} 0 1 = ap (λ (s : Said). whenGiven s 1 0) e in
-    omega arith
-
 -- a refused file is reported by its refusal
 pub reported-refused : (file names : List ℕ) {number place : ℕ} → judged file ≡ refuses number place → Reported file (refuses number place) names
 unfolding reportOf _andThen_
-reported-refused file names e = record { answer = rw e; named = λ vs g. absurd (given-not-refused (sym e ∙ g)) }
+reported-refused file names e = record { answer = rw e; named = λ vs g. absurd (not-refused (sym g ∙ e)) }
 
 allowed-full : allowed 65535 ≡ 65535
 unfolding allowed pick
@@ -143,24 +136,24 @@ module _ (file : List ℕ) (right : Right file) where
       pub run-given : {number place : ℕ} {slices : List (List ℕ)} → left (refuses number place) slices ≡ runLeaves file 65535 class₁ pending₁ work → ⊥
       run-given r =
           let g = subst (λ (l : Lent). (vs : List ℕ) × (runLeaves file 65535 (l .class) (l .pending) (l .work) .said ≡ gives vs)) begun (kept .given .0) in
-          given-not-refused (ap (λ (x : Left). x .said) r ∙ g .1)
+          not-refused (sym (ap (λ (x : Left). x .said) r ∙ g .1))
 
       module _ {takes looked : ℕ} (class₂ pending₂ work₂ : List ℕ) (r : left (gives (takes ∷ looked ∷ [])) (class₂ ∷ pending₂ ∷ work₂ ∷ []) ≡ runLeaves file 65535 class₁ pending₁ work) where
-        pub takes-said : takes ≡ runTakes (machineOf file) 65535 (fresh (machineOf file))
+        takes-said : takes ≡ runTakes (machineOf file) 65535 (fresh (machineOf file))
         unfolding allTakesSaid allTakes saysTakes values
         takes-said =
             let s : takes ≡ saysTakes file 65535 began = ap (λ (x : Left). at (values (x .said)) 0) r in
             let t : allTakesSaid file (65535 ∷ []) began ≡ allTakes M (map allowed (65535 ∷ [])) (fresh M) = subst (λ (l : Lent). allTakesSaid file (65535 ∷ []) l ≡ allTakes M (map allowed (65535 ∷ [])) (fresh M)) begun (kept .takes) in
             s ∙ sym (add-zero (saysTakes file 65535 began)) ∙ t ∙ add-zero (runTakes M (allowed 65535) (fresh M)) ∙ ap (λ (b : ℕ). runTakes M b (fresh M)) allowed-full
 
-        pub entries-said : looked ≡ runEntries (machineOf file) 65535 (fresh (machineOf file))
+        entries-said : looked ≡ runEntries (machineOf file) 65535 (fresh (machineOf file))
         unfolding allEntriesSaid allEntries saysEntries values
         entries-said =
             let s : looked ≡ saysEntries file 65535 began = ap (λ (x : Left). at (values (x .said)) 1) r in
             let t : allEntriesSaid file (65535 ∷ []) began ≡ allEntries M (map allowed (65535 ∷ [])) (fresh M) = subst (λ (l : Lent). allEntriesSaid file (65535 ∷ []) l ≡ allEntries M (map allowed (65535 ∷ [])) (fresh M)) begun (kept .entries) in
             s ∙ sym (add-zero (saysEntries file 65535 began)) ∙ t ∙ add-zero (runEntries M (allowed 65535) (fresh M)) ∙ ap (λ (b : ℕ). runEntries M b (fresh M)) allowed-full
 
-        pub names-left : take (machineOf file .size) class₂ ≡ classes (machineOf file)
+        names-left : take (machineOf file .size) class₂ ≡ classes (machineOf file)
         unfolding afterRuns afterRun classes
         names-left =
             let s : class₂ ≡ afterRuns file (65535 ∷ []) began .class = ap (λ (x : Left). getD (x .lent) 0 []) r in
@@ -169,17 +162,14 @@ module _ (file : List ℕ) (right : Right file) where
             in
             ap (take n) (s ∙ t ∙ ap (λ (xs : List ℕ). written xs class) (kept .demand .classes within)) ∙ written-front n (classes M) class (layer-length M (rounds M))
 
-  -- the report of what the calls said
-  pub reported-made : (z : Sizes) → Good file z → (m r takes looked count long : ℕ) (names : List ℕ)
-      → gives (m ∷ r ∷ []) ≡ gives (classCount (machineOf file .size) (classes (machineOf file)) ∷ rounds (machineOf file) ∷ [])
-      → takes ≡ runTakes (machineOf file) 65535 (fresh (machineOf file))
-      → looked ≡ runEntries (machineOf file) 65535 (fresh (machineOf file))
-      → gives (count ∷ long ∷ []) ≡ gives (length (rows (machineOf file)) ∷ length (shrunk file) ∷ [])
-      → take (machineOf file .size) names ≡ classes (machineOf file)
-      → Reported file (gives (z .states ∷ z .signs ∷ z .start ∷ m ∷ r ∷ takes ∷ looked ∷ count ∷ [])) names
-  unfolding reportOf _andThen_
-  reported-made z g m r takes looked count long names l t e s front =
-      let a : z .states ≡ statesOf file = g .states in
-      let b : z .signs ≡ signsOf file = g .signs in
-      let d : z .start ≡ startOf file = g .start in
-      record { answer = rw accepted cc; named = λ vs h. front }
+        -- the report of what the calls said
+        pub reported-made : {z : Sizes} → Good file z → {m r count long : ℕ}
+            → gives (m ∷ r ∷ []) ≡ gives (classCount (machineOf file .size) (classes (machineOf file)) ∷ rounds (machineOf file) ∷ [])
+            → gives (count ∷ long ∷ []) ≡ gives (length (rows (machineOf file)) ∷ length (shrunk file) ∷ [])
+            → Reported file (gives (z .states ∷ z .signs ∷ z .start ∷ m ∷ r ∷ takes ∷ looked ∷ count ∷ [])) class₂
+        unfolding reportOf _andThen_
+        reported-made {z} g l s =
+            let a : z .states ≡ statesOf file = g .states in
+            let b : z .signs ≡ signsOf file = g .signs in
+            let d : z .start ≡ startOf file = g .start in
+            record { answer = rw accepted (cc (takes-said, entries-said)); named = λ vs h. names-left }

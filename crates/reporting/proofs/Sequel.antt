@@ -1,47 +1,100 @@
--- The ways out of the report, in memory of any length: what is left by the calls that were made.
-use mathlib.Core.Path.{_≡_, sym}
+-- The ways out of the report, each with its facts: what is left by the calls that were made, in memory of any length; and what is reported of the file in memory
+-- that is long enough, where all ways but two are shut. Rests on what each call says in such memory.
+use mathlib.Core.Path.{_≡_, refl, sym, ap, _∙_}
 use mathlib.Core.List.{List, [], _∷_}
 use Prim.Native.Nat.{ℕ}
-use Rattle.table.specs.Answers.{Said, gives, refuses, whenGiven}
+use native.Mathlib.Omega.{arith}
+use lib.ListN.{length}
+use Rattle.table.specs.Answers.{Said, gives, refusal, refusedBy, whenGiven, told as toldJudged}
 use Rattle.table.specs.Judging.{judged}
 use Rattle.table.specs.Leaving.{left, onFile}
 use Rattle.table.specs.Accepted.{Good}
+use Rattle.table.specs.declared.answer.Judged.{Judged}
+use Rattle.table.specs.declared.answer.Judged.the-variants.{Refused as JudgedRefused}
+use Rattle.table.specs.declared.answer.Refusal.{Refusal}
 use Rattle.table.specs.declared.answer.Sizes.{Sizes}
-use Rattle.table.proofs.Leavings.{file-refused}
+use Rattle.table.proofs.Leavings.{not-refused, file-refused}
 use Rattle.table.proofs.Openings.{good-given}
-use Rattle.layering.specs.Calls.{layersLeave}
-use Rattle.splitting.specs.StartCall.{startLeaves}
-use Rattle.splitting.specs.RunCall.{runLeaves}
+use Rattle.layering.specs.Calls.{layersLeave, told as toldLayers}
+use Rattle.layering.specs.declared.layers.Counts.{Counts}
+use Rattle.layering.specs.declared.layers.Layered.{Layered}
+use Rattle.layering.specs.declared.layers.Layered.the-variants.{Found as LayersFound, Refused as LayersRefused}
+use Rattle.splitting.specs.StartCall.{startLeaves, toldStart}
+use Rattle.splitting.specs.RunCall.{runLeaves, toldRun}
 use Rattle.splitting.specs.Sequence.{values}
-use Rattle.shrinking.specs.Calls.{shrinkLeaves}
-use Rattle.reporting.specs.Reports.{first, reportLeaves}
+use Rattle.splitting.specs.declared.starts.Started.{Started}
+use Rattle.splitting.specs.declared.starts.Started.the-variants.{Fresh, Refused as StartRefused}
+use Rattle.splitting.specs.declared.runs.Ran.{Ran}
+use Rattle.splitting.specs.declared.runs.Ran.the-variants.{Made as RunMade, Refused as RunRefused}
+use Rattle.splitting.specs.declared.runs.Tally.{Tally}
+use Rattle.shrinking.specs.Calls.{shrinkLeaves, told as toldShrink}
+use Rattle.shrinking.specs.declared.shrinks.Shrinking.{Shrinking}
+use Rattle.shrinking.specs.declared.shrinks.Shrinking.the-variants.{Made as ShrinkMade, Refused as ShrinkRefused}
+use Rattle.shrinking.specs.declared.shrinks.Size.{Size}
+use Rattle.reporting.specs.Reports.{Roomy, Reported, first, reportLeaves, layeredRefusal, startedRefusal, ranRefusal, shrinkingRefusal}
+use Rattle.reporting.proofs.Answering.{reported-refused, layers-said, start-said, run-given, shrink-said, reported-made}
+
+-- a refusal that is handed on is the one that was said
+handed : {A : Type 0} (told : A → Said) (of : A → Refusal) {answer refused : A} {x : Refusal} → told refused ≡ refusal (of refused) → answer ≡ refused → x ≡ of answer → told answer ≡ refusal x
+handed told of h e s = ap told e ∙ h ∙ ap refusal (sym (s ∙ ap of e))
 
 module _ (file work names pending out : List ℕ) where
-  pub leaves-refused : {number place : ℕ} → judged file ≡ refuses number place → left (refuses number place) (work ∷ names ∷ pending ∷ out ∷ []) ≡ reportLeaves file work names pending out
+  -- what the report owes at a way out
+  abbrev pub Owed : Said → List ℕ → List ℕ → List ℕ → List ℕ → Type 0
+  Owed said work′ names′ pending′ out′ =
+      (left said (work′ ∷ names′ ∷ pending′ ∷ out′ ∷ []) ≡ reportLeaves file work names pending out)
+      × (Roomy (length work) (length names) (length pending) (length out) → Reported file said names′)
+
+  pub out-judged : {answer : Judged} {x y : Refusal} → toldJudged answer ≡ judged file → answer ≡ JudgedRefused y → x ≡ refusedBy answer → Owed (refusal x) work names pending out
   unfolding reportLeaves
-  leaves-refused e = sym (file-refused file (work ∷ names ∷ pending ∷ out ∷ []) _ e)
+  out-judged j e h =
+      let refused = sym j ∙ handed toldJudged refusedBy refl e h in
+      (sym (file-refused file (work ∷ names ∷ pending ∷ out ∷ []) _ refused), λ room. reported-refused file names refused)
 
-  module _ (z : Sizes) (g : Good file z) (work₁ names₁ : List ℕ) {said₁ : Said} (l : left said₁ (work₁ ∷ names₁ ∷ []) ≡ layersLeave file work names) where
-    pub leaves-layers : {number place : ℕ} → said₁ ≡ refuses number place → left (refuses number place) (work₁ ∷ names₁ ∷ pending ∷ out ∷ []) ≡ reportLeaves file work names pending out
+  module _ {z : Sizes} (g : Good file z) {layered : Layered} {work₁ names₁ : List ℕ} (l : left (toldLayers layered) (work₁ ∷ names₁ ∷ []) ≡ layersLeave file work names) where
+    pub out-layers : {x y : Refusal} → layered ≡ LayersRefused y → x ≡ layeredRefusal layered → Owed (refusal x) work₁ names₁ pending out
     unfolding reportLeaves onFile first whenGiven
-    leaves-layers e = rw (good-given g, sym l, e)
+    out-layers e h =
+        let refused = handed toldLayers layeredRefusal refl e h in
+        (rw (good-given g, sym l, refused), λ room. absurd (not-refused (sym (layers-said file (g .right) work names (room .work) (room .classes) l) ∙ refused)))
 
-    module _ {m r : ℕ} (found : said₁ ≡ gives (m ∷ r ∷ [])) (names₂ pending₁ : List ℕ) {said₂ : Said} (s : left said₂ (names₂ ∷ pending₁ ∷ []) ≡ startLeaves file names₁ pending) where
-      pub leaves-start : {number place : ℕ} → said₂ ≡ refuses number place → left (refuses number place) (work₁ ∷ names₂ ∷ pending₁ ∷ out ∷ []) ≡ reportLeaves file work names pending out
+    module _ (work-long : length work₁ ≡ length work) (names-long : length names₁ ≡ length names) {counts : Counts} (found : layered ≡ LayersFound counts)
+        {started : Started} {names₂ pending₁ : List ℕ} (s : left (toldStart started) (names₂ ∷ pending₁ ∷ []) ≡ startLeaves file names₁ pending) where
+      pub out-start : {x y : Refusal} → started ≡ StartRefused y → x ≡ startedRefusal started → Owed (refusal x) work₁ names₂ pending₁ out
       unfolding reportLeaves onFile first whenGiven
-      leaves-start e = rw (good-given g, sym l, found, sym s, e)
+      out-start e h =
+          let refused = handed toldStart startedRefusal refl e h in (
+            rw (good-given g, sym l, ap toldLayers found, sym s, refused),
+            λ room. absurd (not-refused (sym (start-said file (g .right) names₁ pending work₁ (omega arith) (room .pending) (omega arith) s) ∙ refused)),
+          )
 
-      module _ (fresh : said₂ ≡ gives []) (names₃ pending₂ work₂ : List ℕ) {said₃ : Said} (t : left said₃ (names₃ ∷ pending₂ ∷ work₂ ∷ []) ≡ runLeaves file 65535 names₂ pending₁ work₁) where
-        pub leaves-run : {number place : ℕ} → said₃ ≡ refuses number place → left (refuses number place) (work₂ ∷ names₃ ∷ pending₂ ∷ out ∷ []) ≡ reportLeaves file work names pending out
+      module _ (fresh : started ≡ Fresh)
+          {ran : Ran} {names₃ pending₂ work₂ : List ℕ} (t : left (toldRun ran) (names₃ ∷ pending₂ ∷ work₂ ∷ []) ≡ runLeaves file 65535 names₂ pending₁ work₁) where
+        pub out-run : {x y : Refusal} → ran ≡ RunRefused y → x ≡ ranRefusal ran → Owed (refusal x) work₂ names₃ pending₂ out
         unfolding reportLeaves onFile first whenGiven
-        leaves-run e = rw (good-given g, sym l, found, sym s, fresh, sym t, e)
+        out-run e h =
+            let refused = handed toldRun ranRefusal refl e h in (
+              rw (good-given g, sym l, ap toldLayers found, sym s, ap toldStart fresh, sym t, refused),
+              λ room. absurd (run-given file (g .right) names₁ pending work₁ (omega arith) (room .pending) (omega arith) names₂ pending₁ s (rw refused at t)),
+            )
 
-        module _ {takes looked : ℕ} (made : said₃ ≡ gives (takes ∷ looked ∷ [])) (work₃ out₁ : List ℕ) {said₄ : Said} (u : left said₄ (work₃ ∷ out₁ ∷ []) ≡ shrinkLeaves file work₂ out) where
-          pub leaves-shrink : {number place : ℕ} → said₄ ≡ refuses number place → left (refuses number place) (work₃ ∷ names₃ ∷ pending₂ ∷ out₁ ∷ []) ≡ reportLeaves file work names pending out
+        module _ (work-long₂ : length work₂ ≡ length work₁) {tally : Tally} (made : ran ≡ RunMade tally)
+            {small : Shrinking} {work₃ out₁ : List ℕ} (u : left (toldShrink small) (work₃ ∷ out₁ ∷ []) ≡ shrinkLeaves file work₂ out) where
+          pub out-shrink : {x y : Refusal} → small ≡ ShrinkRefused y → x ≡ shrinkingRefusal small → Owed (refusal x) work₃ names₃ pending₂ out₁
           unfolding reportLeaves onFile first whenGiven
-          leaves-shrink e = rw (good-given g, sym l, found, sym s, fresh, sym t, made, sym u, e)
+          out-shrink e h =
+              let refused = handed toldShrink shrinkingRefusal refl e h in (
+                rw (good-given g, sym l, ap toldLayers found, sym s, ap toldStart fresh, sym t, ap toldRun made, sym u, refused),
+                λ room. absurd (not-refused (sym (shrink-said file (g .right) work₂ out (omega arith) (room .out) u) ∙ refused)),
+              )
 
-          pub leaves-all : {count long : ℕ} → said₄ ≡ gives (count ∷ long ∷ [])
-              → left (gives (z .states ∷ z .signs ∷ z .start ∷ m ∷ r ∷ takes ∷ looked ∷ count ∷ [])) (work₃ ∷ names₃ ∷ pending₂ ∷ out₁ ∷ []) ≡ reportLeaves file work names pending out
+          pub out-made : {size : Size} → small ≡ ShrinkMade size
+              → Owed (gives (z .states ∷ z .signs ∷ z .start ∷ counts .classes ∷ counts .rounds ∷ tally .takes ∷ tally .entries ∷ size .rows ∷ [])) work₃ names₃ pending₂ out₁
           unfolding reportLeaves onFile first whenGiven values
-          leaves-all e = rw (good-given g, sym l, found, sym s, fresh, sym t, made, sym u, e, g .states, g .signs, g .start)
+          out-made e = (
+            rw (good-given g, sym l, ap toldLayers found, sym s, ap toldStart fresh, sym t, ap toldRun made, sym u, ap toldShrink e, g .states, g .signs, g .start),
+            λ room.
+                reported-made file (g .right) names₁ pending work₁ (omega arith) (room .pending) (omega arith) names₂ pending₁ s names₃ pending₂ work₂ (rw (ap toldRun made) at t) g
+                (sym (ap toldLayers found) ∙ layers-said file (g .right) work names (room .work) (room .classes) l)
+                (sym (ap toldShrink e) ∙ shrink-said file (g .right) work₂ out (omega arith) (room .out) u),
+          )

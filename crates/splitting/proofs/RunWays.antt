@@ -106,9 +106,9 @@ allowed-most budget = elim (decLt 65535 budget) [
 ]
 
 -- lists with no state where a rule fails are well formed
-pub well-formed : (n k : ℕ) (s : Split) → n ≤ illFormed n k s → WellFormed n k s
+pub well-formed : (n k : ℕ) (s : Split) {ill : ℕ} → ill ≡ illFormed n k s → n ≤ ill → WellFormed n k s
 unfolding illFormed
-well-formed n k s l = formed-iff n k s .0 (omega (arith, least-is n (λ q. not (formed k s q)) .within))
+well-formed n k s e l = formed-iff n k s .0 (omega (arith, least-is n (λ q. not (formed k s q)) .within))
 
 module _ (file : List ℕ) (z : Sizes) (g : Good file z) (budget : ℕ) (class pending work : List ℕ) where
   abbrev handed : Machine
@@ -142,10 +142,10 @@ module _ (file : List ℕ) (z : Sizes) (g : Good file z) (budget : ℕ) (class p
       wide : (ltb (length class) (z .states) || ltb (length pending) (z .states)) ≡ false
       wide = ap₂ _||_ (le-ltb (length class) (z .states) class-room) (le-ltb (length pending) (z .states) pending-room)
 
-      pub run-ill : (ill : ℕ) → ill ≡ illFormed (z .states) (z .signs) (lists (z .states) class pending) → ill < z .states
+      pub run-ill : {ill : ℕ} → ill ≡ illFormed (z .states) (z .signs) (lists (z .states) class pending) → ill < z .states
           → left (refuses 13 ill) (class ∷ pending ∷ work ∷ []) ≡ runLeaves file budget class pending work
       unfolding runOf
-      run-ill ill e l =
+      run-ill e l =
           ap (λ (i : ℕ). left (refuses 13 i) (class ∷ pending ∷ work ∷ [])) e
           ∙ sym
           (given
@@ -153,18 +153,23 @@ module _ (file : List ℕ) (z : Sizes) (g : Good file z) (budget : ℕ) (class p
           ∙ refuses-not 12 (z .states) (class ∷ pending ∷ cleared (16 * z .states) work ∷ []) _ wide
           ∙ refuses-here 13 (illFormed (z .states) (z .signs) (lists (z .states) class pending)) (class ∷ pending ∷ work ∷ []) _ (lt-ltb _ (z .states) (omega arith)))
 
-      pub run-made : z .states ≤ illFormed (z .states) (z .signs) (lists (z .states) class pending) → (mid full ran class′ pending′ : List ℕ) (takes looked : ℕ)
+      pub run-made : {ill : ℕ} → ill ≡ illFormed (z .states) (z .signs) (lists (z .states) class pending) → z .states ≤ ill
+          → {nexts mid full ran class′ pending′ work′ : List ℕ} {takes looked allow : ℕ}
           → PutIn class (6 * z .states) (z .states) work mid
           → PutIn pending (7 * z .states) (z .states) mid full
-          → RanIn (machineIn (z .states) (z .signs) (z .start) [] (nextsIn file z)) (allowed budget) full ran takes looked
+          → nexts ≡ nextsIn file z
+          → allow ≡ allowed budget
+          → RanIn (machineIn (z .states) (z .signs) (z .start) [] nexts) allow full ran takes looked
           → class′ ≡ written (classIn (z .states) ran) class
           → pending′ ≡ written (pendingIn (z .states) ran) pending
-          → left (gives (takes ∷ looked ∷ [])) (class′ ∷ pending′ ∷ cleared (16 * z .states) ran ∷ []) ≡ runLeaves file budget class pending work
+          → work′ ≡ cleared (16 * z .states) ran
+          → left (gives (takes ∷ looked ∷ [])) (class′ ∷ pending′ ∷ work′ ∷ []) ≡ runLeaves file budget class pending work
       unfolding runOf
-      run-made l mid full ran class′ pending′ takes looked c p r e f =
-          ran-left (z .states) (z .signs) (z .start) (marksIn file z) (nextsIn file z) (allowed budget) class pending work mid full ran class′ pending′ takes looked class-room pending-room room c p r e f
+      run-made i l {class′ = class′} {pending′} {takes = takes} {looked} c p x b r e f w =
+          ap (λ (w : List ℕ). left (gives (takes ∷ looked ∷ [])) (class′ ∷ pending′ ∷ w ∷ [])) w
+          ∙ ran-left (z .states) (z .signs) (z .start) (marksIn file z) (nextsIn file z) (allowed budget) class pending work _ _ _ class′ pending′ takes looked class-room pending-room room c p (rw (x, b) at r) e f
           ∙ sym
           (given
           ∙ refuses-not 11 (16 * z .states) (class ∷ pending ∷ work ∷ []) _ (le-ltb (length work) (16 * z .states) room)
           ∙ refuses-not 12 (z .states) (class ∷ pending ∷ cleared (16 * z .states) work ∷ []) _ wide
-          ∙ refuses-not 13 (illFormed (z .states) (z .signs) (lists (z .states) class pending)) (class ∷ pending ∷ work ∷ []) _ (le-ltb _ (z .states) l))
+          ∙ refuses-not 13 (illFormed (z .states) (z .signs) (lists (z .states) class pending)) (class ∷ pending ∷ work ∷ []) _ (le-ltb _ (z .states) (omega arith)))

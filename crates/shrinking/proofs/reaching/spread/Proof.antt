@@ -58,8 +58,11 @@ either-requires c κs = search needs
 mul-work : tie.Need-mul-work Inv-loop μ-loop
 mul-work c = omega (arith, c .before .before .before .next-of .ensures .1)
 
+-- the bound holds of the next state and of the state itself
 slice-write-work : tie.Need-slice-write-work Inv-loop μ-loop
-slice-write-work c = inside (c .before .before .before) .1
+slice-write-work c =
+    let b = c .before .before .before .before .before .before .before .before .before in
+    omega (arith, inside (c .before .before .before) .1, b .pre .1 .0, b .pre .1 .1 .0, c .before .before .before .before .before .before .loop .inv .1 .long)
 
 add-a : tie.Need-add-a Inv-loop μ-loop
 add-a c = omega (arith, c .before .before .before .before .if1 .taken, c .before .before .before .before .before .before .before .before .before .pre .0 .range)

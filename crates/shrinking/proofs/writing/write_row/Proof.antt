@@ -57,7 +57,7 @@ mul-place-2 c = omega (arith, below (c .before .before .before .before))
 add-place-3 : tie.Need-add-place-3 Inv-loop μ-loop
 add-place-3 c = omega (arith, below (c .before .before .before .before))
 
--- the row's class name is a state
+-- the row's class name is a state; so is the row's number, and the bounds below hold of either
 state-in : (c : tie.After-number-at Inv-loop μ-loop) → c .number-at .result < c .before .before .before .before .args .sizes .states
 state-in c =
     let b = c .before .before .before .before in
@@ -69,15 +69,14 @@ loop-holds c = (omega arith, omega arith, refl, row-none _ _ _ _ _ _ _)
 next-of-requires : tie.Need-next-of-requires Inv-loop μ-loop
 next-of-requires c κs =
     let b = c .before .before .before .before .before .before in
-    let z = b .args .sizes in
-    omega (arith, b .pre .0 .long, next-within (z .states) (z .signs) (c .before .before .number-at .result) (c .before .loop .a) (state-in (c .before .before)) (c .loop-test .taken))
+    rw (b .pre .0 .long) (next-within _ _ _ _ (omega (arith, state-in (c .before .before), b .pre .1 .1 .0, b .pre .1 .0 .most)) (c .loop-test .taken))
 
 row-of-requires : tie.Need-row-of-requires Inv-loop μ-loop
 row-of-requires c κs =
     let b = c .before .before .before .before .before .before .before in
-    let s = c .before .before .before in
-    let l = b .pre .0 .next-in (s .number-at .result) (c .before .before .loop .a) (state-in s) (c .before .loop-test .taken) in
-    let m : c .next-of .result < b .args .sizes .states = rw (c .next-of .ensures .0) l in
+    let m : c .next-of .result < b .args .sizes .states =
+    rw (c .next-of .ensures .0) (b .pre .0 .next-in _ _ (omega (arith, state-in (c .before .before .before), b .pre .1 .1 .0, b .pre .1 .0 .most)) (c .before .loop-test .taken))
+    in
     (b .pre .1 .0 .room, (m, b .pre .1 .0 .classes (c .next-of .result) m))
 
 put-pair-requires : tie.Need-put-pair-requires Inv-loop μ-loop

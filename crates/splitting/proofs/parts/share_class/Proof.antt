@@ -1,12 +1,10 @@
 -- `splitting::parts::share_class` meets its contract: the stores leave the class shared among its parts.
 -- Assumes nothing.
-use Prim.Native.Nat.{_-_}
+use Prim.Native.Nat.{_<_}
 use mathlib.Core.Path.{refl, sym, _∙_}
-use mathlib.Core.Bool.{Bool}
 use native.Mathlib.Omega.{arith}
 use borrow.Author.Needs.{needs}
 use denote.Ref.{now}
-use lib.Dec.{leb}
 use lib.ListN.{length-set}
 use Rattle.splitting.proofs.Anew.{pick-small}
 use Rattle.splitting.proofs.Parting.{parted-whole, parted-split}
@@ -19,10 +17,6 @@ first c = c .before .before .before .before
 
 abbrev began : tie.Else1 → tie.Start
 began e = e .before .before .before .before
-
--- the part that keeps the name isn't larger
-abbrev smaller : tie.After-number-at3 → Bool
-smaller c = leb (c .number-at3 .result - c .before .before .number-at2 .result) (c .before .before .number-at2 .result)
 
 add-first : tie.Need-add-first
 add-first c = search needs
@@ -77,9 +71,8 @@ one-of-requires c κs = search needs
 
 cast-work : tie.Need-cast-work
 cast-work c =
-    let o = c .before .number-at4 in
-    let k = c .before .before .before in
-    omega (arith, c .one-of .ensures, pick-small (smaller k) 65536 (o .result) (began (first k) .args .signs) (o .ensures .1) (omega arith))
+    let small : c .one-of .result < 65536 = rw (c .one-of .ensures) (pick-small _ _ _ _ (omega (arith, c .before .number-at4 .ensures .1)) (omega arith)) in
+    omega arith
 
 mul-work : tie.Need-mul-work
 mul-work c = search needs
@@ -92,9 +85,8 @@ one-of-requires-2 c κs = search needs
 
 cast-work-2 : tie.Need-cast-work-2
 cast-work-2 c =
-    let o = c .before .before .number-at4 in
-    let k = c .before .before .before .before in
-    omega (arith, c .one-of2 .ensures, pick-small (smaller k) 65536 (began (first k) .args .signs) (o .result) (omega arith) (o .ensures .1))
+    let small : c .one-of2 .result < 65536 = rw (c .one-of2 .ensures) (pick-small _ _ _ _ (omega arith) (omega (arith, c .before .before .number-at4 .ensures .1))) in
+    omega arith
 
 mul-work-2 : tie.Need-mul-work-2
 mul-work-2 c = search needs

@@ -21,7 +21,7 @@ Inv-loop nexts sizes budget work₀ n takes₀ entries₀ low₀ work takes entr
     (takes ≤ budget) × Progress (machineIn (sizes .states) (sizes .signs) (sizes .start) [] nexts) work₀ work takes entries low
 
 abbrev μ-loop : tie.MeasureT-loop
-μ-loop nexts sizes budget work₀ n takes₀ entries₀ low₀ work takes entries low = budget - takes
+μ-loop nexts sizes budget work₀ n takes₀ entries₀ low₀ work takes entries low = 65535 - takes
 
 abbrev machine : tie.Start Inv-loop μ-loop → Machine
 machine b = machineIn (b .args .sizes .states) (b .args .sizes .signs) (b .args .sizes .start) [] (now (b .args .nexts))
@@ -105,7 +105,9 @@ add-takes c =
     omega (arith, i .before .loop .inv .0, began i .pre .1 .0)
 
 loop-less : tie.Need-loop-less Inv-loop μ-loop
-loop-less c = omega (arith, inside (found (c .before .before .before .before)) .loop-test .taken)
+loop-less c =
+    let i = inside (found (c .before .before .before .before)) in
+    omega (arith, i .loop-test .taken, began i .pre .1 .0)
 
 loop-again : tie.Need-loop-again Inv-loop μ-loop
 loop-again c =

@@ -1,6 +1,6 @@
 -- `splitting::runs::run` meets its contract: each `return` is one of the ways out of the run of takes.
 -- Assumes nothing.
-use mathlib.Core.Path.{_≡_, sym, ap, subst, subst₂, _∙_}
+use mathlib.Core.Path.{_≡_, sym, ap, subst, _∙_}
 use mathlib.Core.Logic.{⊎-elim, inl, inr}
 use mathlib.Core.List.{List, [], _∷_}
 use Prim.Native.Nat.{ℕ, _*_, _≤_}
@@ -8,15 +8,14 @@ use denote.Ref.{now}
 use borrow.Author.Tests.{ltb-true, ltb-false}
 use lib.ListN.{length}
 use Rattle.refining.specs.Lists.{WellFormed}
-use Rattle.table.specs.Answers.{gives, refuses, refusal, refusedBy, told as judgedTold}
+use Rattle.table.specs.Answers.{refuses, refusal, refusedBy, told as judgedTold}
 use Rattle.table.specs.Leaving.{left}
-use Rattle.table.specs.Encoding.{machineIn, Held}
+use Rattle.table.specs.Encoding.{Held}
 use Rattle.table.specs.Accepted.{Good}
 use Rattle.table.specs.declared.answer.Refusal.{Refusal}
+use Rattle.table.specs.declared.answer.Sizes.{Sizes}
 use Rattle.table.proofs.Openings.{good}
 use Rattle.table.proofs.Handing.{nexts-handed, held}
-use Rattle.splitting.specs.Work.{lists}
-use Rattle.splitting.specs.Running.{RanIn}
 use Rattle.splitting.proofs.Copying.{full-lists}
 use Rattle.splitting.proofs.RunWays.{allowed-most, well-formed, run-refused, run-narrow, run-short, run-ill, run-made}
 use native.Mathlib.Omega.{arith}
@@ -39,10 +38,10 @@ refused-by-requires c κs = search needs
 returns : tie.Need-returns
 returns c =
     let t = c .before in
-    let b = t .before .before .before .before .before .before .before in
+    let b = t .before .before .before .before .before .before .before .args in
     let e = t .enum-told .given .1 in
-    ap (λ (r : Refusal). left (refusal r) (now (b .args .class) ∷ now (b .args .pending) ∷ now (b .args .work) ∷ [])) (c .refused-by .ensures ∙ ap refusedBy e)
-    ∙ run-refused (now (b .args .file)) (b .args .budget) (now (b .args .class)) (now (b .args .pending)) (now (b .args .work)) (sym (t .before .before .judge .ensures) ∙ ap judgedTold e)
+    ap (λ (r : Refusal). left (refusal r) (now (b .class) ∷ now (b .pending) ∷ now (b .work) ∷ [])) (c .refused-by .ensures ∙ ap refusedBy e)
+    ∙ run-refused _ _ _ _ _ (sym (t .before .before .judge .ensures) ∙ ap judgedTold e)
 
 -- the ways back from one call to the one before it, and to the start
 abbrev began : tie.After-known-told → tie.Start
@@ -60,22 +59,26 @@ first k = k .before .before .before .before .before
 abbrev second : tie.After-run-takes → tie.After-copy-in2
 second r = r .before .before .before .before .before
 
+abbrev begun : tie.After-run-takes → tie.After-ill-formed
+begun r = tested (first (second r)) .before
+
 abbrev ran : tie.After-copy-out → tie.After-run-takes
 ran o = o .before .before .before .before .before
 
 abbrev third : tie.After-copy-out2 → tie.After-copy-out
 third o = o .before .before .before .before .before
 
-accepted : (k : tie.After-known-told) → Good (now (began k .args .file)) (k .before .judged .given .0 .0)
+abbrev sizes : tie.After-known-told → Sizes
+sizes k = k .before .judged .given .0 .0
+
+accepted : (k : tie.After-known-told) → Good (now (began k .args .file)) (sizes k)
 accepted k = good (k .before .judged .given .1) (k .before .before .before .judge .ensures)
 
 mul-room : tie.Need-mul-room
 mul-room c = omega (arith, accepted c .range .states-most)
 
 returns-2 : tie.Need-returns-2
-returns-2 c =
-    let b = began (c .before) in
-    run-narrow (now (b .args .file)) _ (accepted (c .before)) (b .args .budget) (now (b .args .class)) (now (b .args .pending)) (now (b .args .work)) (c .if1 .taken)
+returns-2 c = run-narrow _ _ (accepted (c .before)) _ _ _ _ (c .if1 .taken)
 
 clear-requires : tie.Need-clear-requires
 clear-requires c κs = search needs
@@ -87,18 +90,19 @@ returns-3 : tie.Need-returns-3
 returns-3 c =
     let j = c .before .before .before .before in
     let k = j .before .before in
-    let b = began k in
-    let z = k .before .judged .given .0 .0 in
-    ap (λ (w : List ℕ). left (refuses 12 (z .states)) (now (b .args .class) ∷ now (b .args .pending) ∷ w ∷ [])) (c .before .before .clear .ensures)
-    ∙ run-short (now (b .args .file)) z (accepted k) (b .args .budget) (now (b .args .class)) (now (b .args .pending)) (now (b .args .work)) (j .before .if1 .left)
-    (⊎-elim (λ w. inl (w .taken)) (λ w. inr (ltb-true _ _ (w .1 .taken))) (j .if2 .came))
+    let b = began k .args in
+    ap (λ (w : List ℕ). left (refuses 12 (sizes k .states)) (now (b .class) ∷ now (b .pending) ∷ w ∷ [])) (c .before .before .clear .ensures)
+    ∙ run-short _ _ (accepted k) _ _ _ _ (j .before .if1 .left) (⊎-elim (λ w. inl (w .taken)) (λ w. inr (ltb-true _ _ (w .1 .taken))) (j .if2 .came))
 
--- the three slices have room
-rooms : (e : tie.Else3)
-    → (16 * e .before .before .before .before .judged .given .0 .0 .states ≤ length (now (began (e .before .before .before) .args .work)))
-    × (e .before .before .before .before .judged .given .0 .0 .states ≤ length (now (began (e .before .before .before) .args .class)))
-    × (e .before .before .before .before .judged .given .0 .0 .states ≤ length (now (began (e .before .before .before) .args .pending)))
-rooms e = (e .before .before .if1 .left, e .before .if2 .left, ltb-false _ _ (e .if3 .left))
+-- the three slices have room, and n is small
+rooms : (i : tie.After-ill-formed)
+    → (16 * sizes (judged i) .states ≤ length (now (began (judged i) .args .work)))
+    × (sizes (judged i) .states ≤ length (now (began (judged i) .args .class)))
+    × (sizes (judged i) .states ≤ length (now (began (judged i) .args .pending)))
+    × (sizes (judged i) .states ≤ 1024)
+rooms i =
+    let e = i .before .before .before in
+    (e .before .before .if1 .left, e .before .if2 .left, ltb-false _ _ (e .if3 .left), accepted (judged i) .range .states-most)
 
 ill-formed-requires : tie.Need-ill-formed-requires
 ill-formed-requires c κs = search needs
@@ -112,18 +116,11 @@ same-length-3 c = search needs
 returns-4 : tie.Need-returns-4
 returns-4 c =
     let i = c .before in
-    let k = judged i in
-    let b = began k in
-    let (room, class-room, pending-room) = rooms (i .before .before .before) in
-    run-ill (now (b .args .file)) (k .before .judged .given .0 .0) (accepted k) (b .args .budget) (now (b .args .class)) (now (b .args .pending)) (now (b .args .work)) room class-room pending-room (i .ill-formed .result) (i .ill-formed .ensures) (c .if4 .taken)
+    let (room, class-room, pending-room, few) = rooms i in
+    run-ill _ _ (accepted (judged i)) _ _ _ _ room class-room pending-room (i .ill-formed .ensures) (c .if4 .taken)
 
 field-of-requires : tie.Need-field-of-requires
 field-of-requires c κs = accepted (judged (c .before))
-
--- the lists are well formed
-well : (e : tie.Else4)
-    → WellFormed (judged (e .before) .before .judged .given .0 .0 .states) (judged (e .before) .before .judged .given .0 .0 .signs) (lists (judged (e .before) .before .judged .given .0 .0 .states) (now (began (judged (e .before)) .args .class)) (now (began (judged (e .before)) .args .pending)))
-well e = well-formed _ _ _ (subst (λ (i : ℕ). judged (e .before) .before .judged .given .0 .0 .states ≤ i) (e .before .ill-formed .ensures) (e .if4 .left))
 
 mul-copy-in : tie.Need-mul-copy-in
 mul-copy-in c = search needs
@@ -131,8 +128,7 @@ mul-copy-in c = search needs
 copy-in-requires : tie.Need-copy-in-requires
 copy-in-requires c κs =
     let i = c .before .before .before .before in
-    let (room, class-room, pending-room) = rooms (i .before .before .before) in
-    let few = accepted (judged i) .range .states-most in
+    let (room, class-room, pending-room, few) = rooms i in
     (class-room, omega arith, omega arith, few)
 
 mul-copy-in-2 : tie.Need-mul-copy-in-2
@@ -142,8 +138,7 @@ copy-in-requires-2 : tie.Need-copy-in-requires-2
 copy-in-requires-2 c κs =
     let k = c .before .before .before .before in
     let i = tested k .before in
-    let (room, class-room, pending-room) = rooms (i .before .before .before) in
-    let few = accepted (judged i) .range .states-most in
+    let (room, class-room, pending-room, few) = rooms i in
     (pending-room, omega (arith, k .copy-in .ensures .long), omega arith, few)
 
 allowed-takes-requires : tie.Need-allowed-takes-requires
@@ -155,48 +150,45 @@ run-takes-requires c κs =
     let f = a .before .before .before in
     let e = tested (first f) in
     let i = e .before in
-    let k = judged i in
-    let b = began k in
-    let z = k .before .judged .given .0 .0 in
-    let (room, class-room, pending-room) = rooms (i .before .before .before) in
+    let b = began (judged i) .args in
+    let z = sizes (judged i) in
+    let (room, class-room, pending-room, few) = rooms i in
     let put = first f .copy-in .ensures in
-    let put2 = f .copy-in2 .ensures in (
-      subst (Held (z .states) (z .signs) (z .start)) (sym (nexts-handed z (first f .before .before .before .field-of .ensures))) (held _ z (accepted k)),
+    let put2 = f .copy-in2 .ensures in
+    let well = well-formed (z .states) (z .signs) _ (i .ill-formed .ensures) (e .if4 .left) in (
+      subst (Held (z .states) (z .signs) (z .start)) (sym (nexts-handed z (first f .before .before .before .field-of .ensures))) (held _ z (accepted (judged i))),
       (
-        (omega (arith, put .long, put2 .long), omega (arith, a .allowed-takes .ensures, allowed-most (b .args .budget))),
-        subst (WellFormed (z .states) (z .signs)) (sym (full-lists (z .states) (now (b .args .class)) (now (b .args .pending)) (now (b .args .work)) _ _ class-room pending-room (omega arith) put put2)) (well e),
+        (omega (arith, put .long, put2 .long), omega (arith, a .allowed-takes .ensures, allowed-most (b .budget))),
+        subst (WellFormed (z .states) (z .signs)) (sym (full-lists (z .states) (now (b .class)) (now (b .pending)) (now (b .work)) _ _ class-room pending-room (omega arith) put put2)) well,
       ),
     )
 
--- the work slice is as long as at the start, and n is small
-long : (r : tie.After-run-takes) → length (r .run-takes .last .1 .1 .1 .0) ≡ length (now (began (judged (tested (first (second r)) .before)) .args .work))
+-- the work slice is as long as at the start
+long : (r : tie.After-run-takes) → length (r .run-takes .last .1 .1 .1 .0) ≡ length (now (began (judged (begun r)) .args .work))
 long r = r .run-takes .ensures .long ∙ second r .copy-in2 .ensures .long ∙ first (second r) .copy-in .ensures .long
 
-few : (r : tie.After-run-takes) → judged (tested (first (second r)) .before) .before .judged .given .0 .0 .states ≤ 1024
-few r = accepted (judged (tested (first (second r)) .before)) .range .states-most
-
 mul-copy-out : tie.Need-mul-copy-out
-mul-copy-out c = omega (arith, few (c .before .before .before))
+mul-copy-out c = omega (arith, rooms (begun (c .before .before .before)) .3)
 
 copy-out-requires : tie.Need-copy-out-requires
 copy-out-requires c κs =
     let r = c .before .before .before .before in
-    let (room, class-room, pending-room) = rooms (tested (first (second r)) .before .before .before .before) in
-    (class-room, omega (arith, long r), omega (arith, few r), few r)
+    let (room, class-room, pending-room, few) = rooms (begun r) in
+    (class-room, omega (arith, long r), omega arith, few)
 
 mul-copy-out-2 : tie.Need-mul-copy-out-2
-mul-copy-out-2 c = omega (arith, few (ran (c .before .before .before)))
+mul-copy-out-2 c = omega (arith, rooms (begun (ran (c .before .before .before))) .3)
 
 copy-out-requires-2 : tie.Need-copy-out-requires-2
 copy-out-requires-2 c κs =
     let r = ran (c .before .before .before .before) in
-    let (room, class-room, pending-room) = rooms (tested (first (second r)) .before .before .before .before) in
-    (pending-room, omega (arith, long r), omega (arith, few r), few r)
+    let (room, class-room, pending-room, few) = rooms (begun r) in
+    (pending-room, omega (arith, long r), omega arith, few)
 
 clear-requires-2 : tie.Need-clear-requires-2
 clear-requires-2 c κs =
     let r = ran (third (c .before .before .before)) in
-    let (room, class-room, pending-room) = rooms (tested (first (second r)) .before .before .before .before) in
+    let (room, class-room, pending-room, few) = rooms (begun r) in
     omega (arith, long r)
 
 same-length-4 : tie.Need-same-length-4
@@ -215,25 +207,10 @@ returns-5 c =
     let o = third p in
     let r = ran o in
     let f = second r in
-    let e = tested (first f) in
-    let i = e .before in
-    let j = judged i in
-    let b = began j in
-    let z = j .before .judged .given .0 .0 in
-    let (room, class-room, pending-room) = rooms (i .before .before .before) in
-    let class = o .copy-out .last .1 .1 .0 in
-    let pending = p .copy-out2 .last .1 .1 .0 in
-    let full = f .copy-in2 .last .1 .0 in
-    let work = r .run-takes .last .1 .1 .1 .0 in
-    let takes = r .run-takes .result .takes in
-    let looked = r .run-takes .result .entries in
-    let made =
-    subst₂ (λ (nexts : List ℕ) (budget : ℕ). RanIn (machineIn (z .states) (z .signs) (z .start) [] nexts) budget full work takes looked)
-    (nexts-handed z (first f .before .before .before .field-of .ensures)) (r .before .before .allowed-takes .ensures) (r .run-takes .ensures)
-    in
-    ap (λ (w : List ℕ). left (gives (takes ∷ looked ∷ [])) (class ∷ pending ∷ w ∷ [])) (k .clear2 .ensures)
-    ∙ run-made (now (b .args .file)) z (accepted j) (b .args .budget) (now (b .args .class)) (now (b .args .pending)) (now (b .args .work)) room class-room pending-room
-    (subst (λ (i : ℕ). z .states ≤ i) (i .ill-formed .ensures) (e .if4 .left)) (first f .copy-in .last .1 .0) full work class pending takes looked (first f .copy-in .ensures) (f .copy-in2 .ensures) made (o .copy-out .ensures) (p .copy-out2 .ensures)
+    let i = begun r in
+    let (room, class-room, pending-room, few) = rooms i in
+    run-made _ _ (accepted (judged i)) _ _ _ _ room class-room pending-room (i .ill-formed .ensures) (tested (first f) .if4 .left) (first f .copy-in .ensures) (f .copy-in2 .ensures)
+    (nexts-handed (sizes (judged i)) (first f .before .before .before .field-of .ensures)) (r .before .before .allowed-takes .ensures) (r .run-takes .ensures) (o .copy-out .ensures) (p .copy-out2 .ensures) (k .clear2 .ensures)
 
 pub run-spec : {M : Type 1} → statement M
 run-spec =
