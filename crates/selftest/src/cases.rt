@@ -1,4 +1,4 @@
-// The samples of document 01, in its order; those with a star are the twelve of `starred`.
+// The samples of document 01, table by table; those with a star are the twelve of `starred`.
 ghost use mathlib.Core.Path.{_≡_};
 ghost use Prim.Native.Nat.{_+_, _*_, _<_, _≤_};
 ghost use lib.ListN.{length};
