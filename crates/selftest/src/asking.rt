@@ -30,7 +30,7 @@ fn begins_with(found: &[u16], due: &[u16]) -> bool {
 }
 
 // Whether the file is refused with this number at this place.
-pub fn is_refused(file: &[u8], number: usize, place: usize) -> bool {
+pub(crate) fn is_refused(file: &[u8], number: usize, place: usize) -> bool {
     let judged = judge(file);
     let Judged::Refused(refusal) = judged else {
         return false;
@@ -40,7 +40,7 @@ pub fn is_refused(file: &[u8], number: usize, place: usize) -> bool {
 }
 
 // Whether the file is accepted, with n and k.
-pub fn is_accepted(file: &[u8], states: usize, signs: usize) -> bool {
+pub(crate) fn is_accepted(file: &[u8], states: usize, signs: usize) -> bool {
     let judged = judge(file);
     let Judged::Accepted(sizes) = judged else {
         return false;
@@ -49,7 +49,7 @@ pub fn is_accepted(file: &[u8], states: usize, signs: usize) -> bool {
 }
 
 // Whether the layered call gives these class names, m and r.
-pub fn classes_are(file: &[u8], names: &[u16], classes: usize, rounds: usize) -> bool {
+pub(crate) fn classes_are(file: &[u8], names: &[u16], classes: usize, rounds: usize) -> bool {
     let mut work = [0u16; 144];
     let mut found = [0u16; 9];
     let answer = layers(file, &mut work, &mut found);
@@ -69,7 +69,7 @@ fn full_splitting(file: &[u8]) -> Ran {
 }
 
 // Whether a full splitting makes so many takes.
-pub fn takes_are(file: &[u8], takes: usize) -> bool {
+pub(crate) fn takes_are(file: &[u8], takes: usize) -> bool {
     let ran = full_splitting(file);
     let Ran::Made(tally) = ran else {
         return false;
@@ -78,7 +78,7 @@ pub fn takes_are(file: &[u8], takes: usize) -> bool {
 }
 
 // Whether a full splitting looks at so many entries.
-pub fn entries_are(file: &[u8], entries: usize) -> bool {
+pub(crate) fn entries_are(file: &[u8], entries: usize) -> bool {
     let ran = full_splitting(file);
     let Ran::Made(tally) = ran else {
         return false;
@@ -103,7 +103,7 @@ fn one_take_is(
 }
 
 // Whether takes made one by one from fresh lists look at these entries, and none is left after them.
-pub fn takes_look_at(file: &[u8], entries: &[u16]) -> bool {
+pub(crate) fn takes_look_at(file: &[u8], entries: &[u16]) -> bool {
     let mut class = [0u16; 9];
     let mut pending = [0u16; 9];
     fresh(file, &mut class, &mut pending);
@@ -118,7 +118,7 @@ pub fn takes_look_at(file: &[u8], entries: &[u16]) -> bool {
 }
 
 // Whether the two states part by this word.
-pub fn part_by(file: &[u8], p: usize, q: usize, word: &[u8]) -> bool {
+pub(crate) fn part_by(file: &[u8], p: usize, q: usize, word: &[u8]) -> bool {
     let mut work = [0u16; 144];
     let mut found = [0u8; 9];
     let answer = tell(file, p, q, &mut work, &mut found);
@@ -132,7 +132,7 @@ pub fn part_by(file: &[u8], p: usize, q: usize, word: &[u8]) -> bool {
 }
 
 // Whether the two states are alike.
-pub fn are_alike(file: &[u8], p: usize, q: usize) -> bool {
+pub(crate) fn are_alike(file: &[u8], p: usize, q: usize) -> bool {
     let mut work = [0u16; 144];
     let mut found = [0u8; 9];
     let answer = tell(file, p, q, &mut work, &mut found);
@@ -143,7 +143,7 @@ pub fn are_alike(file: &[u8], p: usize, q: usize) -> bool {
 }
 
 // Whether the file shrinks to these bytes.
-pub fn shrinks_to(file: &[u8], due: &[u8]) -> bool {
+pub(crate) fn shrinks_to(file: &[u8], due: &[u8]) -> bool {
     let mut work = [0u16; 144];
     let mut out = [0u8; 64];
     let answer = shrink(file, &mut work, &mut out);
@@ -158,7 +158,7 @@ pub fn shrinks_to(file: &[u8], due: &[u8]) -> bool {
 }
 
 // Whether the shrunk file has so many rows.
-pub fn rows_are(file: &[u8], rows: usize) -> bool {
+pub(crate) fn rows_are(file: &[u8], rows: usize) -> bool {
     let mut work = [0u16; 144];
     let mut out = [0u8; 64];
     let answer = shrink(file, &mut work, &mut out);
@@ -169,7 +169,7 @@ pub fn rows_are(file: &[u8], rows: usize) -> bool {
 }
 
 // Whether the report has these numbers, n, k, start, m, r, takes, entries and rows, and these class names.
-pub fn report_is(file: &[u8], due: &[usize], names: &[u16]) -> bool {
+pub(crate) fn report_is(file: &[u8], due: &[usize], names: &[u16]) -> bool {
     if due.len() != 8 {
         return false;
     }
