@@ -12,13 +12,13 @@ use table::fields::field_of;
 use table::judging::judge;
 
 // m and r.
-#[derive(Drop)]
+#[derive(Clone, Copy)]
 pub struct Counts {
     pub classes: usize,
     pub rounds: usize,
 }
 
-#[derive(Drop)]
+#[derive(Clone, Copy)]
 pub enum Layered {
     Found(Counts),
     Refused(Refusal),

@@ -1,4 +1,6 @@
 // Classes by layers: the rounds that both the layered call and the telling word run, and the layered call.
+#![tactic(auto)]
+
 pub mod first;
 pub mod layers;
 pub mod rounds;

@@ -50,7 +50,7 @@ fn bucket_of(nexts: &[u8], sizes: Sizes, work: &[u16], q: usize) -> usize
 }
 
 // The name of a state in the next layer: one that was there before it or that it had, or its own, new, with its bucket.
-#[derive(Drop)]
+#[derive(Clone, Copy)]
 pub enum Seek {
     Found(usize),
     New(usize),

@@ -1,4 +1,6 @@
 // Lent memory: numbers of two bytes read from bytes and written to them, the high byte first; lent numbers read, and cleared; a count of numbers that pass a test; one of two by a test.
+#![tactic(auto)]
+
 ghost use Rattle.std.specs.Prelude.{◌≡◌, ◌||◌, ◌+◌, ◌/◌, ◌%◌, ◌<◌, ◌≤◌, length, set};
 ghost use Rattle.counting.specs.Lists.{at};
 ghost use Rattle.counting.specs.Least.{pick};

@@ -1,4 +1,6 @@
 // Reads a table file from standard input and prints the report on it: its sizes, what was found, and the class of each state; or the refusal.
+#![tactic(auto)]
+
 use lending::number_at;
 use reporting::{Numbers, Summary};
 use table::answer::{Refusal, number_of};

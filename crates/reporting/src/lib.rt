@@ -1,4 +1,6 @@
 // The report on a table: its sizes, the classes, and what a full splitting and the shrunk file come to.
+#![tactic(auto)]
+
 ghost use Rattle.std.specs.Prelude.{◌≡◌, [], ◌∷◌, length};
 ghost use Rattle.table.specs.Leaving.{left};
 ghost use Rattle.reporting.specs.Reports.{told, Roomy, Reported, report_leaves, layered_refusal, started_refusal, ran_refusal, shrinking_refusal};
@@ -11,7 +13,7 @@ use table::answer::{Judged, Kind, Refusal, Sizes, refused_by};
 use table::judging::judge;
 
 // n, k and start; m and r; takes and entries of a full splitting from fresh; rows of the shrunk file.
-#[derive(Drop)]
+#[derive(Clone, Copy)]
 pub struct Numbers {
     pub sizes: Sizes,
     pub classes: usize,
@@ -21,7 +23,7 @@ pub struct Numbers {
     pub rows: usize,
 }
 
-#[derive(Drop)]
+#[derive(Clone, Copy)]
 pub enum Summary {
     Found(Numbers),
     Refused(Refusal),

@@ -1,3 +1,5 @@
 // Running words and lines on the table in a file.
+#![tactic(auto)]
+
 pub mod plan;
 pub mod words;

@@ -11,14 +11,14 @@ use table::fields::{field_of, mark_of, next_of};
 use table::judging::judge;
 
 // The mark of the last state, or a refusal.
-#[derive(Drop)]
+#[derive(Clone, Copy)]
 pub enum Ran {
     Ended(usize),
     Refused(Refusal),
 }
 
 // Where a walk along a word ends: in a state, or at the index of a sign that the table does not have.
-#[derive(Drop)]
+#[derive(Clone, Copy)]
 pub enum Walk {
     Stands(usize),
     Strange(usize),

@@ -5,7 +5,7 @@ use crate::{asking, files, samples};
 use libc::STDOUT_FILENO;
 use shrinking::writing::write_sizes;
 
-#[derive(Drop)]
+#[derive(Clone, Copy)]
 pub struct Counts {
     pub passed: usize,
     pub failed: usize,

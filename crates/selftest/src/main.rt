@@ -1,4 +1,6 @@
 // The self-test: every sample of document 01 asked of the proved calls, a line for each case, and the counts.
+#![tactic(auto)]
+
 mod asking;
 mod cases;
 mod files;

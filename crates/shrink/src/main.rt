@@ -1,5 +1,7 @@
 // Reads a table from standard input and writes the shrunk file to standard output. A refused file gets one line on
 // standard error, `refused NUMBER PLACE`, and nothing on standard output.
+#![tactic(auto)]
+
 ghost use Rattle.std.specs.Prelude.{◌≡◌, length};
 ghost use Rattle.shrinking.specs.Shrunk.{shrunk};
 

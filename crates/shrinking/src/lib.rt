@@ -1,4 +1,6 @@
 // The shrunk file.
+#![tactic(auto)]
+
 pub mod reaching;
 pub mod rows;
 pub mod shrinks;

@@ -17,20 +17,20 @@ use table::fields::field_of;
 use table::judging::judge;
 
 // The rows of the shrunk file, and its length.
-#[derive(Drop)]
+#[derive(Clone, Copy)]
 pub struct Size {
     pub rows: usize,
     pub length: usize,
 }
 
-#[derive(Drop)]
+#[derive(Clone, Copy)]
 pub enum Shrinking {
     Made(Size),
     Refused(Refusal),
 }
 
 // The rows found, and the takes of the splitting that found the classes.
-#[derive(Drop)]
+#[derive(Clone, Copy)]
 pub struct Rows {
     pub count: usize,
     pub takes: usize,

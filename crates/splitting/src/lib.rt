@@ -1,4 +1,6 @@
 // Classes by splitting: the fresh lists, and runs of takes.
+#![tactic(auto)]
+
 pub mod copies;
 pub mod hits;
 pub mod lists;

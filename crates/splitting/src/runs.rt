@@ -19,13 +19,13 @@ use table::fields::field_of;
 use table::judging::judge;
 
 // Takes made and entries looked at.
-#[derive(Drop)]
+#[derive(Clone, Copy)]
 pub struct Tally {
     pub takes: usize,
     pub entries: usize,
 }
 
-#[derive(Drop)]
+#[derive(Clone, Copy)]
 pub enum Ran {
     Made(Tally),
     Refused(Refusal),

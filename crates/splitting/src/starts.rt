@@ -14,7 +14,7 @@ use table::answer::{Judged, Kind, Refusal, Sizes, refused_by};
 use table::fields::{field_of, mark_of};
 use table::judging::judge;
 
-#[derive(Drop)]
+#[derive(Clone, Copy)]
 pub enum Started {
     Fresh,
     Refused(Refusal),

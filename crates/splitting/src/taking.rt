@@ -10,7 +10,7 @@ use lending::number_at;
 use table::answer::Sizes;
 
 // What a take did: the entries looked at, and whether a class was split.
-#[derive(Drop)]
+#[derive(Clone, Copy)]
 pub struct Look {
     pub entries: usize,
     pub split: bool,

@@ -3,7 +3,7 @@ ghost use Rattle.std.specs.Prelude.{◌≡◌};
 ghost use Rattle.table.specs.Answers.{number_of, refusal_of, refused_by};
 
 // The refusals, in the order of their numbers.
-#[derive(Drop)]
+#[derive(Clone, Copy)]
 pub enum Kind {
     Short,
     Tag,
@@ -20,35 +20,35 @@ pub enum Kind {
     Lists,
 }
 
-#[derive(Drop)]
+#[derive(Clone, Copy)]
 pub struct Refusal {
     pub kind: Kind,
     pub place: usize,
 }
 
 // n, k and the start of an accepted file.
-#[derive(Drop)]
+#[derive(Clone, Copy)]
 pub struct Sizes {
     pub states: usize,
     pub signs: usize,
     pub start: usize,
 }
 
-#[derive(Drop)]
+#[derive(Clone, Copy)]
 pub enum Judged {
     Accepted(Sizes),
     Refused(Refusal),
 }
 
 // A part of the lent file: where it starts, and how many bytes it has.
-#[derive(Drop)]
+#[derive(Clone, Copy)]
 pub struct Part {
     pub place: usize,
     pub length: usize,
 }
 
 // A reading step gives a field, as the part that is its body, or a refusal.
-#[derive(Drop)]
+#[derive(Clone, Copy)]
 pub enum Step {
     Field(Part),
     Refused(Refusal),

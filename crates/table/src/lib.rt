@@ -1,4 +1,6 @@
 // The table file: its refusals, the one judgement of it, its fields, and the marks and next states that stand in them.
+#![tactic(auto)]
+
 pub mod answer;
 pub mod fields;
 pub mod judging;

@@ -16,7 +16,7 @@ use table::fields::field_of;
 use table::judging::judge;
 
 // Alike, or the length of the word, whose signs stand at the front of the lent bytes.
-#[derive(Drop)]
+#[derive(Clone, Copy)]
 pub enum Parting {
     Alike,
     Apart(usize),

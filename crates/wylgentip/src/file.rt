@@ -10,7 +10,7 @@ use table::judging::judge;
 
 // number 0: accepted, with n, k and start; else the refusal's number and place, and the rest is 0.
 #[repr(C)]
-#[derive(Drop)]
+#[derive(Clone, Copy)]
 pub struct WylJudged {
     pub number: usize,
     pub place: usize,
@@ -20,7 +20,7 @@ pub struct WylJudged {
 }
 
 #[repr(C)]
-#[derive(Drop)]
+#[derive(Clone, Copy)]
 pub struct WylPart {
     pub place: usize,
     pub length: usize,

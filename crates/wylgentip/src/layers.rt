@@ -8,7 +8,7 @@ use table::answer::number_of;
 
 // number 0: found, with m and r; else the refusal's number and place, and the rest is 0.
 #[repr(C)]
-#[derive(Drop)]
+#[derive(Clone, Copy)]
 pub struct WylLayered {
     pub number: usize,
     pub place: usize,

@@ -1,5 +1,7 @@
 // The C interface: each call of the crates below it, with slices as a pointer and a length and answers as structs of numbers.
 // include/wylgentip.h says what each refuses and leaves.
+#![tactic(auto)]
+
 pub mod file;
 pub mod layers;
 pub mod shrinks;

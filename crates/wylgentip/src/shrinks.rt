@@ -8,7 +8,7 @@ use table::answer::number_of;
 
 // number 0: the rows of the shrunk file and its length; else the refusal's number and place, and the rest is 0.
 #[repr(C)]
-#[derive(Drop)]
+#[derive(Clone, Copy)]
 pub struct WylShrunk {
     pub number: usize,
     pub place: usize,

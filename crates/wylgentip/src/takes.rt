@@ -10,7 +10,7 @@ use table::answer::number_of;
 
 // number 0: the lists are fresh; else the refusal's number and place.
 #[repr(C)]
-#[derive(Drop)]
+#[derive(Clone, Copy)]
 pub struct WylStarted {
     pub number: usize,
     pub place: usize,
@@ -18,7 +18,7 @@ pub struct WylStarted {
 
 // number 0: takes made and entries looked at; else the refusal's number and place, and the rest is 0.
 #[repr(C)]
-#[derive(Drop)]
+#[derive(Clone, Copy)]
 pub struct WylTaken {
     pub number: usize,
     pub place: usize,

@@ -8,7 +8,7 @@ use telling::words::{Parting, tell};
 
 // number 0: apart is 1 and length the word's, or apart is 0 and the states are alike; else the refusal's number and place, and the rest is 0.
 #[repr(C)]
-#[derive(Drop)]
+#[derive(Clone, Copy)]
 pub struct WylTold {
     pub number: usize,
     pub place: usize,

@@ -8,7 +8,7 @@ use table::answer::number_of;
 
 // number 0: run to the end, with the mark of the last state; else the refusal's number and place, and kind is 0.
 #[repr(C)]
-#[derive(Drop)]
+#[derive(Clone, Copy)]
 pub struct WylRan {
     pub number: usize,
     pub place: usize,
