@@ -1,0 +1,29 @@
+-- `telling::climbing::later_birth` meets its contract: each arm is a case of the test on the births.
+use Prim.Native.Nat.{ℕ}
+use borrow.Author.Tests.{lt-ltb, le-ltb}
+use Rattle.counting.specs.Least.{pick}
+use Rattle.layering.specs.Work.{born}
+use native.Mathlib.Omega.{arith}
+use borrow.Author.Rules.{rules}
+use Rattle.telling.proofs.climbing.later_birth.Goals as goal
+
+-- the two births
+abbrev one : goal.Start → ℕ
+one b = born b.args.n b.args.work.now b.args.one
+
+abbrev other : goal.Start → ℕ
+other b = born b.args.n b.args.work.now b.args.other
+
+pub returns-then-birth-later : goal.returns-then-birth-later
+unfolding pick
+returns-then-birth-later c =
+    let b = c in
+    let f = c.number_at-later.ensures.value in
+    rw (lt-ltb (one b) (other b) (omega (arith, c.if-birth-later.true, c.number_at-birth.ensures.value, f))) f
+
+pub returns-else-birth-later : goal.returns-else-birth-later
+unfolding pick
+returns-else-birth-later c =
+    let b = c in
+    let e = c.number_at-birth.ensures.value in
+    rw (le-ltb (one b) (other b) (omega (arith, c.if-birth-later.false, e, c.number_at-later.ensures.value))) e

@@ -1,0 +1,16 @@
+-- `telling::writing::write_word` meets its contract. The loop's invariant: the signs written are the word's, and what is to come is the word for the two states
+-- they lead to.
+use Prim.Native.Nat.{ℕ, ◌+◌, ◌*◌, ◌≤◌, ◌<◌, ◌-◌}
+use native.Mathlib.Omega.{arith}
+use lib.ListN.{length}
+use Rattle.table.specs.Encoding.{Held}
+use Rattle.table.proofs.Readers.{next_within}
+use Rattle.telling.proofs.Spellings.{Spelling, spelling_none, sign_in, spelling_more, spelling_done}
+use Rattle.telling.proofs.writing.write_word.Given as goal
+
+abbrev pub invariant-loop-i : goal.invariant-loop-i
+invariant-loop-i l =
+    (l.i ≤ l.depth) × Spelling l.sizes.states l.sizes.signs l.sizes.start l.nexts l.work l.p l.q l.depth l.initial.word l.word l.one l.other l.i
+
+abbrev pub decreases-loop-i : goal.decreases-loop-i
+decreases-loop-i l = l.depth - l.i
