@@ -25,8 +25,8 @@ returns-in_default c =
     let b = c in
     let a = c.args in
     let e = b.in_default.is in
-    ap (λ (r : Refusal). left (refusal r) (a.work-1.now ∷ a.result.now ∷ [])) (c.refused_by.ensures ∙ ap refused_by e)
-    ∙ layers_refused a.file.now a.work-1.now a.result.now (sym b.judge-judged.ensures ∙ ap judgedTold e)
+    ap (λ (r : Refusal). left (refusal r) (a.work.now ∷ a.res.now ∷ [])) (c.refused_by.ensures ∙ ap refused_by e)
+    ∙ layers_refused a.file.now a.work.now a.res.now (sym b.judge-judged.ensures ∙ ap judgedTold e)
 
 pub overflow_mul-room : goal.overflow_mul-room
 overflow_mul-room c = omega (arith, (accepted c).range.states_most)
@@ -39,8 +39,8 @@ returns-then-res-n c =
     let k = c in
     let z = k.in-Accepted.sizes in
     let a = c.args in
-    ap (λ (w : List ℕ). left (refuses 12 z.states) (w ∷ a.result.now ∷ [])) c.clear.ensures
-    ∙ layers_short a.file.now z (accepted k) a.work-1.now a.result.now (omega arith) (omega arith)
+    ap (λ (w : List ℕ). left (refuses 12 z.states) (w ∷ a.res.now ∷ [])) c.clear.ensures
+    ∙ layers_short a.file.now z (accepted k) a.work.now a.res.now (omega arith) (omega arith)
 
 pub field_of-marks-requires : goal.field_of-marks-requires
 field_of-marks-requires c = accepted c
@@ -77,8 +77,8 @@ returns c =
     let f = c.find_classes-rounds in
     let w = c.write_names-classes in
     let s =
-    subst₂ (λ (marks nexts : List ℕ). Settled (machine_in z.states z.signs z.start marks nexts) a.work-1.now f.new.1.1.1.0 f.result)
+    subst₂ (λ (marks nexts : List ℕ). Settled (machine_in z.states z.signs z.start marks nexts) a.work.now f.new.work f.result)
     (marks_handed z c.field_of-marks.ensures) (nexts_handed z c.field_of-nexts.ensures) f.ensures
     in
     ap₂ left (ap (λ (m : ℕ). gives (m ∷ f.result ∷ [])) w.ensures.0) (ap₂ (λ (v u : List ℕ). v ∷ u ∷ []) c.clear-2.ensures w.ensures.1)
-    ∙ layers_found a.file.now z (accepted k) a.work-1.now a.result.now (omega (arith, c.if-work-room.false)) (omega (arith, c.if-res-n.false)) f.new.1.1.1.0 f.result s
+    ∙ layers_found a.file.now z (accepted k) a.work.now a.res.now (omega (arith, c.if-work-room.false)) (omega (arith, c.if-res-n.false)) f.new.work f.result s

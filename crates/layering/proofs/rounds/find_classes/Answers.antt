@@ -12,7 +12,7 @@ settle-requires c =
       b.requires.held,
       (
         omega (arith, f.ensures.long, b.requires.room),
-        begins z.states z.signs z.start b.args.marks.now b.args.nexts.now b.args.work-1.now f.new.1.0 f.ensures,
+        begins z.states z.signs z.start b.args.marks.now b.args.nexts.now b.args.work.now f.new.work f.ensures,
       ),
     )
 
@@ -21,4 +21,4 @@ returns c =
     let b = c in
     let f = c.first_names in
     let z = b.args.sizes in
-    settled z.states z.signs z.start b.args.marks.now b.args.nexts.now b.args.work-1.now f.new.1.0 f.ensures _ _ c.settle.ensures
+    settled z.states z.signs z.start b.args.marks.now b.args.nexts.now b.args.work.now f.new.work f.ensures _ _ c.settle.ensures

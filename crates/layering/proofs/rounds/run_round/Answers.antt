@@ -33,7 +33,7 @@ name_state-fresh-requires c =
         omega (arith, l.invariant.1.long, (emptied s).long, b.requires.room),
         (
           (c.loop-q-test.true, b.requires.small),
-          (named_same _ b.args.work-1.now l.work-1 (λ x m. l.invariant.1.same x m ∙ (emptied s).below x (omega arith)) b.requires.named, l.invariant.1.done),
+          (named_same _ b.args.work.now l.work (λ x m. l.invariant.1.same x m ∙ (emptied s).below x (omega arith)) b.requires.named, l.invariant.1.done),
         ),
       ),
     )
@@ -56,7 +56,7 @@ loop-q-preserved c =
     let t = i.loop-q-test.true in
     let a = c.name_state-fresh.ensures in (
       omega (arith, t),
-      rounded_as (sym (add-one l.q)) (sym c.either-changed.ensures) (round_goes_on _ (cleared s) l.work-1 _ b.args.layer l.q t l.changed _ l.invariant.1 a),
+      rounded_as (sym (add-one l.q)) (sym c.either-changed.ensures) (round_goes_on _ (cleared s) l.work _ b.args.layer l.q t l.changed _ l.invariant.1 a),
     )
 
 pub returns : goal.returns
@@ -66,4 +66,4 @@ returns c =
     let b = s in
     let z = b.args.sizes in
     let e : l.q ≡ z.states = omega (arith, l.invariant.0, c.loop-q-test.false) in
-    round_from (machine_in z.states z.signs z.start [] b.args.nexts.now) b.args.work-1.now (cleared s) l.work-1 b.args.layer l.changed (emptied s) (rounded_as e refl l.invariant.1)
+    round_from (machine_in z.states z.signs z.start [] b.args.nexts.now) b.args.work.now (cleared s) l.work b.args.layer l.changed (emptied s) (rounded_as e refl l.invariant.1)

@@ -19,7 +19,7 @@ pub overflow_add-next : goal.overflow_add-next
 overflow_add-next c =
     let b = c in
     let z = b.args.sizes in
-    omega (arith, round_small z.states z.signs z.start (take z.states b.args.work-1.now) b.args.nexts.now b.requires.held b.args.work-1.now c.loop-sizes.work-1 c.loop-sizes.i b.requires.room c.loop-sizes.invariant)
+    omega (arith, round_small z.states z.signs z.start (take z.states b.args.work.now) b.args.nexts.now b.requires.held b.args.work.now c.loop-sizes.work c.loop-sizes.i b.requires.room c.loop-sizes.invariant)
 
 pub run_round-changed-requires : goal.run_round-changed-requires
 run_round-changed-requires c =
@@ -30,8 +30,8 @@ run_round-changed-requires c =
       (
         omega (arith, l.invariant.0, b.requires.room),
         (
-          omega (arith, round_small z.states z.signs z.start (take z.states b.args.work-1.now) b.args.nexts.now b.requires.held b.args.work-1.now l.work-1 l.i b.requires.room l.invariant),
-          in_layer_named (machine_in z.states z.signs z.start (take z.states b.args.work-1.now) b.args.nexts.now) l.i l.work-1 l.invariant.1,
+          omega (arith, round_small z.states z.signs z.start (take z.states b.args.work.now) b.args.nexts.now b.requires.held b.args.work.now l.work l.i b.requires.room l.invariant),
+          in_layer_named (machine_in z.states z.signs z.start (take z.states b.args.work.now) b.args.nexts.now) l.i l.work l.invariant.1,
         ),
       ),
     )
@@ -41,7 +41,7 @@ returns-then-not-changed c =
     let b = c in
     let l = c.loop-sizes in
     let z = b.args.sizes in
-    round_settles z.states z.signs z.start (take z.states b.args.work-1.now) b.args.nexts.now b.requires.held b.args.work-1.now l.work-1 l.i b.requires.room l.invariant _ _ c.if-not-changed.true c.run_round-changed.ensures
+    round_settles z.states z.signs z.start (take z.states b.args.work.now) b.args.nexts.now b.requires.held b.args.work.now l.work l.i b.requires.room l.invariant _ _ c.if-not-changed.true c.run_round-changed.ensures
 
 pub advance-requires : goal.advance-requires
 advance-requires c = omega (arith, c.run_round-changed.ensures.long, c.loop-sizes.invariant.0, c.requires.room)
@@ -51,11 +51,11 @@ loop-sizes-smaller c =
     let b = c in
     let l = c.loop-sizes in
     let z = b.args.sizes in
-    omega (arith, round_unsettled z.states z.signs z.start (take z.states b.args.work-1.now) b.args.nexts.now b.requires.held b.args.work-1.now l.work-1 l.i b.requires.room l.invariant _ _ (not-false _ c.if-not-changed.false) c.run_round-changed.ensures)
+    omega (arith, round_unsettled z.states z.signs z.start (take z.states b.args.work.now) b.args.nexts.now b.requires.held b.args.work.now l.work l.i b.requires.room l.invariant _ _ (not-false _ c.if-not-changed.false) c.run_round-changed.ensures)
 
 pub loop-sizes-preserved : goal.loop-sizes-preserved
 loop-sizes-preserved c =
     let b = c in
     let l = c.loop-sizes in
     let z = b.args.sizes in
-    round_deepens z.states z.signs z.start (take z.states b.args.work-1.now) b.args.nexts.now b.requires.held b.args.work-1.now l.work-1 l.i b.requires.room l.invariant _ _ _ (not-false _ c.if-not-changed.false) c.run_round-changed.ensures c.advance.ensures
+    round_deepens z.states z.signs z.start (take z.states b.args.work.now) b.args.nexts.now b.requires.held b.args.work.now l.work l.i b.requires.room l.invariant _ _ _ (not-false _ c.if-not-changed.false) c.run_round-changed.ensures c.advance.ensures
