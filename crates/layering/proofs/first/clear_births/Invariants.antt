@@ -1,9 +1,6 @@
--- `layering::first::clear_births` meets its contract. The loop's invariant: the first q births are layer 0.
-use native.Mathlib.Omega.{arith}
-use Prim.Native.Nat.{ℕ, ◌≤◌, ◌-◌}
-use mathlib.Core.Path.{◌≡◌, subst}
+-- What the loop of `layering::first::clear_births` keeps: the first q births are layer 0.
+use Prim.Native.Nat.{◌≤◌, ◌-◌}
 use Rattle.layering.specs.Layered.{Unborn}
-use Rattle.layering.proofs.Beginning.{unborn_none, unborn_more}
 use Rattle.layering.proofs.first.clear_births.Given as goal
 
 abbrev pub invariant-loop-q : goal.invariant-loop-q

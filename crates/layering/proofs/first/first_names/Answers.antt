@@ -1,6 +1,5 @@
 -- `layering::first::first_names` meets its contract: the names, then their births.
 use Rattle.layering.proofs.Beginning.{begun_born}
-use borrow.Author.Rules.{rules}
 use Rattle.layering.proofs.first.first_names.Goals as goal
 
 pub returns : goal.returns

@@ -1,6 +1,6 @@
--- `layering::first::mark_names` meets its contract. The loop's invariant: the first q states are named, and zero and one are the first states of each mark among them.
+-- `layering::first::mark_names` meets its contract.
 use native.Mathlib.Omega.{arith}
-use Prim.Native.Nat.{ℕ, ◌+◌, ◌≤◌, ◌-◌}
+use Prim.Native.Nat.{ℕ, ◌+◌}
 use mathlib.Core.Path.{◌≡◌, sym, ap, subst, ◌∙◌}
 use mathlib.Core.Bool.{not}
 use lib.Dec.{eqb}
@@ -9,14 +9,10 @@ use Rattle.counting.specs.Least.{pick}
 use Rattle.counting.proofs.Leasts.{IsLeast}
 use Rattle.layering.specs.Layered.{FirstNamed}
 use Rattle.layering.proofs.Beginning.{has, first_named_none, first_named_more, past-least, first-name, nothing_least, either_small, other_mark}
-use borrow.Author.Rules.{rules}
 use Rattle.layering.proofs.first.mark_names.Goals as goal
 
 pub loop-q-init : goal.loop-q-init
 loop-q-init c = (omega arith, first_named_none _ _, nothing_least c.args.marks.now 0, nothing_least c.args.marks.now 1)
-
-pub mark_of-plain-requires : goal.mark_of-plain-requires
-mark_of-plain-requires c = omega (arith, c.loop-q-test.true, c.requires.marked.0)
 
 pub overflow_cast-names : goal.overflow_cast-names
 overflow_cast-names c =
@@ -24,31 +20,15 @@ overflow_cast-names c =
     let s = either_small (eqb c.mark_of-plain.result 0) l.q l.zero l.one l.invariant.2.within l.invariant.3.within in
     omega (arith, c.one_of-name.ensures, s, c.loop-q-test.true, c.requires.room.1)
 
-pub bounds-names-q : goal.bounds-names-q
-bounds-names-q c = omega (arith, c.requires.room.0, c.loop-q.invariant.1.long, c.loop-q-test.true)
-
-pub past-zero-requires : goal.past-zero-requires
-past-zero-requires c = omega (arith, c.requires.room.1, c.loop-q-test.true)
-
-pub past-one-requires : goal.past-one-requires
-past-one-requires c = omega (arith, c.requires.room.1, c.loop-q-test.true)
-
-pub overflow_add-q : goal.overflow_add-q
-overflow_add-q c = omega (arith, c.requires.room.1, c.loop-q-test.true)
-
-pub loop-q-smaller : goal.loop-q-smaller
-loop-q-smaller c = omega (arith, c.loop-q-test.true)
-
 pub loop-q-preserved : goal.loop-q-preserved
 loop-q-preserved c =
-    let b = c in
     let l = c.loop-q in
     let t = c.loop-q-test.true in
-    let marks = b.args.marks.now in
+    let marks = c.args.marks.now in
     let m = c.mark_of-plain in
-    let two = b.requires.marked.1 l.q t in (
+    let two = c.requires.marked.1 l.q t in (
       omega (arith, t),
-      first_named_more l.q c.one_of-name.result marks b.args.names.now l.names (omega (arith, t, l.invariant.1.long, b.requires.room.0))
+      first_named_more l.q c.one_of-name.result marks c.args.names.now l.names (omega (arith, t, l.invariant.1.long, c.requires.room.0))
           (c.one_of-name.ensures ∙ ap (λ (x : ℕ). pick (eqb x 0) l.zero l.one) m.ensures ∙ first-name l.q l.zero l.one marks two l.invariant.2 l.invariant.3) l.invariant.1,
       subst (λ (x : ℕ). IsLeast (l.q + 1) (has marks 0) x) (sym c.past-zero.ensures)
           (past-least l.q 0 l.zero marks (eqb m.result 0) (ap (λ (x : ℕ). eqb x 0) (sym m.ensures)) l.invariant.2),
@@ -58,7 +38,6 @@ loop-q-preserved c =
 
 pub returns : goal.returns
 returns c =
-    let b = c in
     let l = c.loop-q in
-    let e : l.q ≡ b.args.n = omega arith in
-    subst (λ (q : ℕ). FirstNamed b.args.marks.now q b.args.names.now l.names) e l.invariant.1
+    let e : l.q ≡ c.args.n = omega arith in
+    subst (λ (q : ℕ). FirstNamed c.args.marks.now q c.args.names.now l.names) e l.invariant.1

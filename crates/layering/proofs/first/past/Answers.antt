@@ -2,7 +2,6 @@
 use mathlib.Core.Path.{refl}
 use Rattle.layering.proofs.Beginning.{past_on, past_stays}
 use Rattle.counting.specs.Least.{pick}
-use borrow.Author.Rules.{rules}
 use Rattle.layering.proofs.first.past.Goals as goal
 
 pub returns-then-here : goal.returns-then-here

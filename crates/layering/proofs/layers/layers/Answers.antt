@@ -43,16 +43,17 @@ field_of-marks-requires c = good c.in-Accepted.is c.judge-judged.ensures
 pub field_of-nexts-requires : goal.field_of-nexts-requires
 field_of-nexts-requires c = good c.in-Accepted.is c.judge-judged.ensures
 
-pub find_classes-rounds-requires : goal.find_classes-rounds-requires
-find_classes-rounds-requires c =
+pub find_classes-rounds-requires-clause-marked : goal.find_classes-rounds-requires-clause-marked
+find_classes-rounds-requires-clause-marked c =
     let z = c.in-Accepted.sizes in
     let g = good c.in-Accepted.is c.judge-judged.ensures in
     let m = marks_handed z c.field_of-marks.ensures in
-    record {
-      marked = (ap length m ∙ marks_long _ z g, λ q l. subst (λ (marks : List ℕ). at marks q < 2) (sym m) (marks_small _ z g q l));
-      held = subst (Held z.states z.signs z.start) (sym (nexts_handed z c.field_of-nexts.ensures)) (held _ z g);
-      room = omega (arith, c.if-work-room.false);
-    }
+    (ap length m ∙ marks_long _ z g, λ q l. subst (λ (marks : List ℕ). at marks q < 2) (sym m) (marks_small _ z g q l))
+
+pub find_classes-rounds-requires-clause-held : goal.find_classes-rounds-requires-clause-held
+find_classes-rounds-requires-clause-held c =
+    let z = c.in-Accepted.sizes in
+    subst (Held z.states z.signs z.start) (sym (nexts_handed z c.field_of-nexts.ensures)) (held _ z (good c.in-Accepted.is c.judge-judged.ensures))
 
 pub write_names-classes-requires : goal.write_names-classes-requires
 write_names-classes-requires c =

@@ -1,10 +1,6 @@
--- `layering::layers::write_names` meets its contract. The loop's invariant: the first q names are written and counted.
-use Prim.Native.Nat.{ℕ, ◌+◌, ◌≤◌, ◌-◌}
-use mathlib.Core.Path.{◌≡◌, sym, subst}
-use lib.ListN.{set}
-use Rattle.counting.specs.Lists.{at}
-use Rattle.layering.proofs.Copying.{Copied, copied_none, copied_more, copied_all, names_most}
-use native.Mathlib.Omega.{arith}
+-- What the loop of `layering::layers::write_names` keeps: the first q names are written and counted.
+use Prim.Native.Nat.{◌≤◌, ◌-◌}
+use Rattle.layering.proofs.Copying.{Copied}
 use Rattle.layering.proofs.layers.write_names.Given as goal
 
 abbrev pub invariant-loop-q : goal.invariant-loop-q

@@ -1,11 +1,10 @@
--- `rounds::advance` meets its contract. The loop's invariant: the first x names are taken over, and the rest is as it was.
-use Prim.Native.Nat.{ℕ, ◌+◌, ◌≤◌, ◌-◌}
+-- `layering::rounds::advance` meets its contract.
+use Prim.Native.Nat.{ℕ, ◌+◌}
 use mathlib.Core.Path.{◌≡◌, refl, subst}
 use native.Mathlib.Omega.{arith}
 use Rattle.counting.specs.Lists.{at}
 use Rattle.layering.specs.Work.{Moved}
 use Rattle.layering.proofs.Moving.{moved_none, moved_more}
-use borrow.Author.Rules.{rules}
 use Rattle.layering.proofs.rounds.advance.Goals as goal
 
 pub loop-x-init : goal.loop-x-init

@@ -1,10 +1,6 @@
--- `rounds::advance` meets its contract. The loop's invariant: the first x names are taken over, and the rest is as it was.
-use Prim.Native.Nat.{ℕ, ◌+◌, ◌≤◌, ◌-◌}
-use mathlib.Core.Path.{◌≡◌, refl, subst}
-use native.Mathlib.Omega.{arith}
-use Rattle.counting.specs.Lists.{at}
+-- What the loop of `layering::rounds::advance` keeps: the first x names are taken over, and the rest is as it was.
+use Prim.Native.Nat.{◌≤◌, ◌-◌}
 use Rattle.layering.specs.Work.{Moved}
-use Rattle.layering.proofs.Moving.{moved_none, moved_more}
 use Rattle.layering.proofs.rounds.advance.Given as goal
 
 abbrev pub invariant-loop-x : goal.invariant-loop-x

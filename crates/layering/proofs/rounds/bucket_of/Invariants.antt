@@ -1,16 +1,9 @@
--- `layering::rounds::bucket_of` meets its contract. The loop's invariant: the names under the signs passed are mixed.
-use Prim.Native.Nat.{ℕ, ◌+◌, ◌*◌, ◌/◌, ◌%◌, ◌≤◌, ◌<◌, ◌-◌}
-use mathlib.Core.Path.{◌≡◌, ap, ap₂, ◌∙◌}
+-- What the loop of `layering::rounds::bucket_of` keeps: the names under the signs passed are mixed.
+use Prim.Native.Nat.{◌≤◌, ◌<◌, ◌-◌}
+use mathlib.Core.Path.{◌≡◌}
 use mathlib.Core.List.{[]}
-use native.Mathlib.Nat.{mod-lt}
-use native.Mathlib.Numerals.{add-one}
-use native.Mathlib.Omega.{arith}
-use lib.ListN.{length}
-use Rattle.counting.specs.Lists.{at}
-use Rattle.lending.specs.Pairs.{pair_at}
-use Rattle.table.specs.Encoding.{Held, machine_in}
-use Rattle.table.proofs.Readers.{next_within}
-use Rattle.layering.specs.Work.{bucket, mixed}
+use Rattle.table.specs.Encoding.{machine_in}
+use Rattle.layering.specs.Work.{mixed}
 use Rattle.layering.proofs.rounds.bucket_of.Given as goal
 
 abbrev pub invariant-loop-sign : goal.invariant-loop-sign

@@ -1,9 +1,6 @@
--- `layering::rounds::clear_heads` meets its contract. The loop's invariant: the first b buckets are emptied.
-use Prim.Native.Nat.{ℕ, ◌≤◌, ◌-◌}
-use mathlib.Core.Path.{◌≡◌, subst}
-use native.Mathlib.Omega.{arith}
+-- What the loop of `layering::rounds::clear_heads` keeps: the first b buckets are emptied.
+use Prim.Native.Nat.{◌≤◌, ◌-◌}
 use Rattle.layering.specs.Work.{Emptied}
-use Rattle.layering.proofs.Emptying.{emptied_none, emptied_more}
 use Rattle.layering.proofs.rounds.clear_heads.Given as goal
 
 abbrev pub invariant-loop-b : goal.invariant-loop-b

@@ -1,8 +1,6 @@
 -- `layering::rounds::name_state` meets its contract: the stores of each case leave one state more done.
 use mathlib.Core.List.{List, []}
 use Prim.Native.Nat.{ℕ}
-use native.Mathlib.Omega.{arith}
-use lib.ListN.{length-set}
 use Rattle.automaton.specs.Machine.{Machine}
 use Rattle.table.specs.Encoding.{machine_in}
 use Rattle.table.specs.declared.answer.Sizes.{Sizes}
@@ -13,18 +11,6 @@ use Rattle.layering.proofs.rounds.name_state.Goals as goal
 -- the machine of the next states
 abbrev machine : Sizes → List ℕ → Machine
 machine z nexts = machine_in z.states z.signs z.start [] nexts
-
-pub overflow_cast-work : goal.overflow_cast-work
-overflow_cast-work c = omega (arith, c.in-Found.ensures.0, c.requires.state.0, c.requires.held.range.states_most)
-
-pub overflow_add-head : goal.overflow_add-head
-overflow_add-head c = omega (arith, c.in-New.ensures.1, c.requires.held.range.states_most)
-
-pub bounds-work-head : goal.bounds-work-head
-bounds-work-head c = omega (arith, c.in-New.ensures.1, c.requires.room)
-
-pub bounds-work-head-in-New : goal.bounds-work-head-in-New
-bounds-work-head-in-New c = simp length-set (omega (arith, c.in-New.ensures.1, c.requires.room))
 
 pub returns-in-Found : goal.returns-in-Found
 returns-in-Found c =

@@ -1,38 +1,18 @@
--- `layering::rounds::run_round` meets its contract. The loop's invariant: the round so far, over the slice with its buckets emptied.
-use Prim.Native.Nat.{ℕ, ◌≤◌, ◌-◌}
+-- `layering::rounds::run_round` meets its contract.
 use mathlib.Core.Path.{◌≡◌, refl, sym, ◌∙◌}
-use mathlib.Core.List.{List, []}
+use mathlib.Core.List.{[]}
 use native.Mathlib.Numerals.{add-one}
 use native.Mathlib.Omega.{arith}
 use Rattle.table.specs.Encoding.{machine_in}
-use Rattle.layering.specs.Work.{Emptied, Rounded}
 use Rattle.layering.proofs.Rounding.{round_begins, round_from, round_goes_on, rounded_as, named_same}
-use borrow.Author.Rules.{rules}
 use Rattle.layering.proofs.rounds.run_round.Goals as goal
-
-pub clear_heads-requires : goal.clear_heads-requires
-clear_heads-requires c = (c.requires.room, c.requires.held.range.states_most)
 
 pub loop-q-init : goal.loop-q-init
 loop-q-init c = (omega arith, round_begins _ c.clear_heads.new.work _ c.clear_heads.ensures.empty)
 
-pub name_state-fresh-requires : goal.name_state-fresh-requires
-name_state-fresh-requires c =
-    let i = c.loop-q.invariant.1 in
-    let e = c.clear_heads.ensures in
-    record {
-      held = c.requires.held;
-      room = omega (arith, i.long, e.long, c.requires.room);
-      state = (c.loop-q-test.true, c.requires.small);
-      named = named_same _ c.args.work.now c.loop-q.work (λ x m. i.same x m ∙ e.below x (omega arith)) c.requires.named;
-      done = i.done;
-    }
-
-pub overflow_add-q : goal.overflow_add-q
-overflow_add-q c = omega (arith, c.loop-q-test.true, c.requires.held.range.states_most)
-
-pub loop-q-smaller : goal.loop-q-smaller
-loop-q-smaller c = omega (arith, c.loop-q-test.true)
+pub name_state-fresh-requires-clause-named : goal.name_state-fresh-requires-clause-named
+name_state-fresh-requires-clause-named c =
+    named_same _ c.args.work.now c.loop-q.work (λ x m. c.loop-q.invariant.1.same x m ∙ c.clear_heads.ensures.below x (omega arith)) c.requires.named
 
 pub loop-q-preserved : goal.loop-q-preserved
 loop-q-preserved c =

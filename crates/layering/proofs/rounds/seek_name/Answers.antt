@@ -22,21 +22,10 @@ machine z nexts = machine_in z.states z.signs z.start [] nexts
 small : (z : Sizes) (nexts work : List ℕ) (q b : ℕ) → Held z.states z.signs z.start nexts → b ≡ bucket (machine z nexts) work q → b < z.states
 small z nexts work q b h e = omega (arith, e, bucket_below (machine z nexts) work q h.range.some_state)
 
-pub number_at-own-requires : goal.number_at-own-requires
-number_at-own-requires c = omega (arith, c.requires.room, c.requires.state)
-
 pub returns-then-own-q : goal.returns-then-own-q
 returns-then-own-q c =
     let e = sym c.number_at-own.ensures.value ∙ c.if-own-q.true in
     (omega arith, own_found (machine c.args.sizes c.args.nexts.now) (held_lawful [] c.requires.held) c.args.work.now c.args.q c.requires.state c.requires.named e, λ _. e)
-
-pub same_nexts-requires : goal.same_nexts-requires
-same_nexts-requires c =
-    record {
-      held = c.requires.held;
-      room = omega (arith, c.requires.room);
-      states = (c.requires.state, omega (arith, c.number_at-own.ensures.value, c.requires.named.low c.args.q c.requires.state, c.requires.state));
-    }
 
 pub returns-then-same_nexts : goal.returns-then-same_nexts
 returns-then-same_nexts c =
@@ -44,18 +33,11 @@ returns-then-same_nexts c =
     let work = c.args.work.now in
     let q = c.args.q in
     let e = c.number_at-own.ensures.value in
-    let f = ap (same_nexts M work q) (sym e) ∙ sym c.same_nexts.ensures ∙ c.if-same_nexts.true in
-    (
+    let f = ap (same_nexts M work q) (sym e) ∙ sym c.same_nexts.ensures ∙ c.if-same_nexts.true in (
       omega (arith, e, c.requires.named.low q c.requires.state),
       this_found M (held_lawful [] c.requires.held) work q c.requires.state c.requires.named f ∙ sym e,
       λ h. sym e ∙ h,
     )
-
-pub bucket_of-bucket-requires : goal.bucket_of-bucket-requires
-bucket_of-bucket-requires c = record { held = c.requires.held; room = c.requires.room; state = c.requires.state }
-
-pub overflow_mul-n : goal.overflow_mul-n
-overflow_mul-n c = omega (arith, c.requires.held.range.states_most)
 
 pub overflow_add-n : goal.overflow_add-n
 overflow_add-n c = omega (arith, small c.args.sizes c.args.nexts.now c.args.work.now c.args.q _ c.requires.held c.bucket_of-bucket.ensures, c.requires.held.range.states_most)
@@ -68,33 +50,12 @@ loop-r-init c =
     let e = c.number_at-r.ensures.value ∙ ap (head c.args.sizes.states c.args.work.now) c.bucket_of-bucket.ensures in
     passed_start (machine c.args.sizes c.args.nexts.now) (held_lawful [] c.requires.held) c.args.work.now c.args.q c.requires.state c.requires.named c.requires.done c.number_at-r.result e
 
-pub number_at-requires : goal.number_at-requires
-number_at-requires c = omega (arith, (c.loop-r.invariant.name c.loop-r-test.true).0.below, c.requires.room, c.requires.state)
-
-pub same_nexts-requires-then-number_at-own : goal.same_nexts-requires-then-number_at-own
-same_nexts-requires-then-number_at-own c =
-    let l = (c.loop-r.invariant.name c.loop-r-test.true).0.below in
-    record {
-      held = c.requires.held;
-      room = omega (arith, c.requires.room);
-      states = (c.requires.state, omega (arith, l, c.requires.state));
-    }
-
 pub returns-then-same_nexts-2 : goal.returns-then-same_nexts-2
 returns-then-same_nexts-2 c =
     let e = sym c.number_at.ensures.value ∙ c.if-number_at-own.true ∙ c.number_at-own.ensures.value in
     let f = sym c.same_nexts-then-number_at-own.ensures ∙ c.if-same_nexts-2.true in
     let (k, g) = passed_found (machine c.args.sizes c.args.nexts.now) (held_lawful [] c.requires.held) c.args.work.now c.args.q c.requires.state c.requires.named c.requires.done c.loop-r.r c.loop-r.invariant c.loop-r-test.true e f in
     (omega (arith, k), g, λ h. absurd (omega (arith, k, h)))
-
-pub overflow_mul-n-in-loop-r : goal.overflow_mul-n-in-loop-r
-overflow_mul-n-in-loop-r c = omega (arith, c.requires.held.range.states_most)
-
-pub overflow_add-n-in-loop-r : goal.overflow_add-n-in-loop-r
-overflow_add-n-in-loop-r c = omega (arith, (c.loop-r.invariant.name c.loop-r-test.true).0.below, c.requires.held.range.states_most, c.requires.state)
-
-pub number_at-r-requires-in-loop-r : goal.number_at-r-requires-in-loop-r
-number_at-r-requires-in-loop-r c = omega (arith, (c.loop-r.invariant.name c.loop-r-test.true).0.below, c.requires.room, c.requires.state)
 
 pub loop-r-smaller : goal.loop-r-smaller
 loop-r-smaller c =
@@ -121,8 +82,7 @@ returns c =
     let q = c.args.q in
     let e = c.number_at-own.ensures.value in
     let v : this work q ≢ q = λ h. c.if-own-q.false (e ∙ h) in
-    let f : same_nexts M work q (this work q) ≡ false = ap (same_nexts M work q) (sym e) ∙ sym c.same_nexts.ensures ∙ c.if-same_nexts.false in
-    (
+    let f : same_nexts M work q (this work q) ≡ false = ap (same_nexts M work q) (sym e) ∙ sym c.same_nexts.ensures ∙ c.if-same_nexts.false in (
       c.bucket_of-bucket.ensures,
       small c.args.sizes c.args.nexts.now c.args.work.now c.args.q _ c.requires.held c.bucket_of-bucket.ensures,
       v,

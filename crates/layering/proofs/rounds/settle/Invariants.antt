@@ -1,14 +1,11 @@
--- `layering::rounds::settle` meets its contract. The loop's invariant: the work slice holds layer i, and all beyond the first 6 × n numbers is as it was.
+-- What the loop of `layering::rounds::settle` keeps: the work slice holds layer i, and all beyond the first 6 × n numbers is as it was.
 use Prim.Native.Nat.{ℕ, ◌*◌, ◌≤◌, ◌-◌}
-use mathlib.Core.Path.{◌≡◌, refl, ◌∙◌}
-use borrow.Author.Tests.{not-false}
+use mathlib.Core.Path.{◌≡◌}
 use lib.ListN.{length, take}
 use Rattle.counting.specs.Lists.{at}
 use Rattle.automaton.specs.Layers.{rounds}
 use Rattle.table.specs.Encoding.{machine_in}
 use Rattle.layering.specs.Layered.{InLayer}
-use Rattle.layering.proofs.Descent.{in_layer_named, round_small, round_settles, round_unsettled, round_deepens}
-use native.Mathlib.Omega.{arith}
 use Rattle.layering.proofs.rounds.settle.Given as goal
 
 abbrev pub invariant-loop-sizes : goal.invariant-loop-sizes

@@ -9,21 +9,19 @@ use Rattle.telling.proofs.climbing.later_birth.Goals as goal
 
 -- the two births
 abbrev one : goal.Start → ℕ
-one b = born b.args.n b.args.work.now b.args.one
+one b = born c.args.n c.args.work.now c.args.one
 
 abbrev other : goal.Start → ℕ
-other b = born b.args.n b.args.work.now b.args.other
+other b = born c.args.n c.args.work.now c.args.other
 
 pub returns-then-birth-later : goal.returns-then-birth-later
 unfolding pick
 returns-then-birth-later c =
-    let b = c in
     let f = c.number_at-later.ensures.value in
     rw (lt-ltb (one b) (other b) (omega (arith, c.if-birth-later.true, c.number_at-birth.ensures.value, f))) f
 
 pub returns-else-birth-later : goal.returns-else-birth-later
 unfolding pick
 returns-else-birth-later c =
-    let b = c in
     let e = c.number_at-birth.ensures.value in
     rw (le-ltb (one b) (other b) (omega (arith, c.if-birth-later.false, e, c.number_at-later.ensures.value))) e

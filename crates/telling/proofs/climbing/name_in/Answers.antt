@@ -1,4 +1,4 @@
--- `telling::climbing::name_in` meets its contract. The loop's invariant: the state has this name in a layer that is not before the one asked. The measure is the name.
+-- `telling::climbing::name_in` meets its contract.
 use Prim.Native.Nat.{◌<◌}
 use mathlib.Core.Path.{sym, subst}
 use Rattle.layering.specs.Work.{born}
@@ -9,8 +9,7 @@ use Rattle.telling.proofs.climbing.name_in.Goals as goal
 
 low : (c : goal.At-loop-name invariant-loop decreases-loop) → c.loop.name < c.before.before.before.args.n
 low c =
-    let b = c in
-    climbed_low b.args.n b.args.work.now b.args.x b.args.layer c.loop-name.name c.loop-name.invariant b.requires.kept
+    climbed_low c.args.n c.args.work.now c.args.x c.args.layer c.loop-name.name c.loop-name.invariant c.requires.kept
 
 -- the name is born after the layer asked
 late : (c : goal.In-loop-name invariant-loop decreases-loop) → c.before.before.before.before.before.args.layer < born c.before.before.before.before.before.args.n c.before.before.before.before.before.args.work.now c.before.before.loop.name
@@ -21,9 +20,8 @@ number_at-name-requires c = omega (arith, c.requires.room, c.requires.state)
 
 pub loop-name-init : goal.loop-name-init
 loop-name-init c =
-    let b = c in
-    subst (Climbed b.args.n b.args.work.now b.args.x b.args.layer) (sym c.number_at-name.ensures.value)
-    (climbed_none b.args.n b.args.work.now b.args.x b.args.layer b.requires.state)
+    subst (Climbed c.args.n c.args.work.now c.args.x c.args.layer) (sym c.number_at-name.ensures.value)
+    (climbed_none c.args.n c.args.work.now c.args.x c.args.layer c.requires.state)
 
 pub overflow_add-n : goal.overflow_add-n
 overflow_add-n c = let l = low c in search rules
@@ -42,7 +40,7 @@ loop-name-smaller c =
     let t = c in
     let m = t in
     let b = m in
-    let l = climbed_less b.args.n b.args.work.now b.args.x b.args.layer m.loop-name.name m.loop-name.invariant b.requires.kept (late t) in
+    let l = climbed_less c.args.n c.args.work.now c.args.x c.args.layer m.loop-name.name m.loop-name.invariant c.requires.kept (late t) in
     omega (arith, l, c.number_at-name-in-loop-name.ensures.value)
 
 pub loop-name-preserved : goal.loop-name-preserved
@@ -50,11 +48,11 @@ loop-name-preserved c =
     let t = c in
     let m = t in
     let b = m in
-    subst (Climbed b.args.n b.args.work.now b.args.x b.args.layer) (sym c.number_at-name-in-loop-name.ensures.value)
-    (climbed_more b.args.n b.args.work.now b.args.x b.args.layer m.loop-name.name m.loop-name.invariant (late t))
+    subst (Climbed c.args.n c.args.work.now c.args.x c.args.layer) (sym c.number_at-name-in-loop-name.ensures.value)
+    (climbed_more c.args.n c.args.work.now c.args.x c.args.layer m.loop-name.name m.loop-name.invariant (late t))
 
 pub returns : goal.returns
 returns c =
     let m = c in
     let b = m in
-    climbed_done b.args.n b.args.work.now b.args.x b.args.layer m.loop-name.name m.loop-name.invariant (omega (arith, c.number_at.ensures.value, c.loop-name-test.false))
+    climbed_done c.args.n c.args.work.now c.args.x c.args.layer m.loop-name.name m.loop-name.invariant (omega (arith, c.number_at.ensures.value, c.loop-name-test.false))

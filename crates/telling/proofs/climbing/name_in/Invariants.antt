@@ -1,4 +1,4 @@
--- `telling::climbing::name_in` meets its contract. The loop's invariant: the state has this name in a layer that is not before the one asked. The measure is the name.
+-- What the loop of `telling::climbing::name_in` keeps: the state has this name in a layer that is not before the one asked. The measure is the name.
 use Prim.Native.Nat.{◌<◌}
 use mathlib.Core.Path.{sym, subst}
 use Rattle.layering.specs.Work.{born}

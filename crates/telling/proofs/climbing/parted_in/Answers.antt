@@ -1,4 +1,4 @@
--- `telling::climbing::parted_in` meets its contract. The loop's invariant: the states have these names, which differ, in some layer. The measure is the names' sum.
+-- `telling::climbing::parted_in` meets its contract.
 use Prim.Native.Nat.{◌+◌, ◌<◌}
 use Rattle.telling.proofs.Ancestors.{Traced, traced_none, traced_low, traced_first, traced_more, traced_found, traced_less}
 use native.Mathlib.Omega.{arith}
@@ -7,8 +7,7 @@ use Rattle.telling.proofs.climbing.parted_in.Goals as goal
 
 low : (c : goal.At-loop-n invariant-loop decreases-loop) → (c.loop.one < c.before.before.before.before.args.n) × (c.loop.other < c.before.before.before.before.args.n)
 low c =
-    let b = c in
-    traced_low b.args.n b.args.work.now b.args.p b.args.q c.loop-n.one c.loop-n.other c.loop-n.invariant b.requires.kept
+    traced_low c.args.n c.args.work.now c.args.p c.args.q c.loop-n.one c.loop-n.other c.loop-n.invariant c.requires.kept
 
 pub number_at-one-requires : goal.number_at-one-requires
 number_at-one-requires c = omega (arith, c.requires.room, c.requires.states.0)
@@ -18,9 +17,8 @@ number_at-other-requires c = omega (arith, c.requires.room, c.requires.states.1)
 
 pub loop-n-init : goal.loop-n-init
 loop-n-init c =
-    let b = c in
     rw (c.number_at-one.ensures.value, c.number_at-other.ensures.value)
-    (traced_none b.args.n b.args.work.now b.args.p b.args.q b.requires.states.0 b.requires.states.1 b.requires.apart)
+    (traced_none c.args.n c.args.work.now c.args.p c.args.q c.requires.states.0 c.requires.states.1 c.requires.apart)
 
 pub later_birth-layer-requires : goal.later_birth-layer-requires
 later_birth-layer-requires c = record { room = c.requires.room; states = low c }
@@ -29,7 +27,7 @@ pub returns-then-layer-eq0 : goal.returns-then-layer-eq0
 returns-then-layer-eq0 c =
     let m = c in
     let b = m in
-    traced_first b.args.n b.args.work.now b.args.p b.args.q m.loop-n.one m.loop-n.other m.loop-n.invariant c.later_birth-layer.result c.later_birth-layer.ensures c.if-layer-eq0.true
+    traced_first c.args.n c.args.work.now c.args.p c.args.q m.loop-n.one m.loop-n.other m.loop-n.invariant c.later_birth-layer.result c.later_birth-layer.ensures c.if-layer-eq0.true
 
 pub name_before-one-requires : goal.name_before-one-requires
 name_before-one-requires c = record { room = c.requires.room; state = (low c).0 }
@@ -43,7 +41,7 @@ returns-then-one-other c =
     let e = o in
     let m = e in
     let b = m in
-    traced_found b.args.n b.args.work.now b.args.p b.args.q m.loop-n.one m.loop-n.other m.loop-n.invariant e.later_birth-layer.result e.later_birth-layer.ensures
+    traced_found c.args.n c.args.work.now c.args.p c.args.q m.loop-n.one m.loop-n.other m.loop-n.invariant e.later_birth-layer.result e.later_birth-layer.ensures
     e.if-layer-eq0.false o.name_before-one.result o.name_before-other.result o.name_before-one.ensures o.name_before-other.ensures c.if-one-other.true
 
 pub loop-n-smaller : goal.loop-n-smaller
@@ -52,8 +50,8 @@ loop-n-smaller c =
     let e = o in
     let m = e in
     let b = m in
-    traced_less b.args.n b.args.work.now b.args.p b.args.q m.loop-n.one m.loop-n.other m.loop-n.invariant e.later_birth-layer.result e.later_birth-layer.ensures
-    e.if-layer-eq0.false o.name_before-one.result o.name_before-other.result o.name_before-one.ensures o.name_before-other.ensures b.requires.kept
+    traced_less c.args.n c.args.work.now c.args.p c.args.q m.loop-n.one m.loop-n.other m.loop-n.invariant e.later_birth-layer.result e.later_birth-layer.ensures
+    e.if-layer-eq0.false o.name_before-one.result o.name_before-other.result o.name_before-one.ensures o.name_before-other.ensures c.requires.kept
 
 pub loop-n-preserved : goal.loop-n-preserved
 loop-n-preserved c =
@@ -61,5 +59,5 @@ loop-n-preserved c =
     let e = o in
     let m = e in
     let b = m in
-    traced_more b.args.n b.args.work.now b.args.p b.args.q m.loop-n.one m.loop-n.other m.loop-n.invariant e.later_birth-layer.result e.later_birth-layer.ensures
+    traced_more c.args.n c.args.work.now c.args.p c.args.q m.loop-n.one m.loop-n.other m.loop-n.invariant e.later_birth-layer.result e.later_birth-layer.ensures
     e.if-layer-eq0.false o.name_before-one.result o.name_before-other.result o.name_before-one.ensures o.name_before-other.ensures c.if-one-other.false

@@ -1,4 +1,4 @@
--- `telling::climbing::parted_in` meets its contract. The loop's invariant: the states have these names, which differ, in some layer. The measure is the names' sum.
+-- What the loop of `telling::climbing::parted_in` keeps: the states have these names, which differ, in some layer. The measure is the names' sum.
 use Prim.Native.Nat.{◌+◌, ◌<◌}
 use Rattle.telling.proofs.Ancestors.{Traced, traced_none, traced_low, traced_first, traced_more, traced_found, traced_less}
 use native.Mathlib.Omega.{arith}

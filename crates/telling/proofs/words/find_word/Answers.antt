@@ -19,10 +19,10 @@ use borrow.Author.Rules.{rules}
 use Rattle.telling.proofs.words.find_word.Goals as goal
 
 abbrev machine : goal.Start → Machine
-machine b = machine_in b.args.sizes.states b.args.sizes.signs b.args.sizes.start b.args.marks.now b.args.nexts.now
+machine b = machine_in c.args.sizes.states c.args.sizes.signs c.args.sizes.start c.args.marks.now c.args.nexts.now
 
 lawful : (b : goal.Start) → Lawful (machine b)
-lawful b = held_lawful b.args.marks.now b.requires.held
+lawful b = held_lawful c.args.marks.now c.requires.held
 
 -- the slice as the rounds left it, and that it keeps the layers
 abbrev after : goal.After-find_classes → List ℕ
@@ -41,47 +41,42 @@ parted c = c.parted_in-depth.ensures (machine c) (keeps c)
 
 pub returns-then-number_at : goal.returns-then-number_at
 returns-then-number_at c =
-    let b = c in
-    let a = b.args in
+    let a = c.args in
     let n = c in record {
-      said = spoken_alike (machine b) (lawful b) a.p a.q b.requires.states.0 b.requires.states.1 (cleared (16 * a.sizes.states) a.work-1.now) a.word-1.now (after c) (keeps c)
+      said = spoken_alike (machine b) (lawful b) a.p a.q c.requires.states.0 c.requires.states.1 (cleared (16 * a.sizes.states) a.work-1.now) a.word-1.now (after c) (keeps c)
           (sym n.number_at.ensures.value ∙ c.if-number_at.true ∙ n.number_at-2.ensures.value);
       beyond = beyond c;
     }
 
 pub parted_in-depth-requires : goal.parted_in-depth-requires
 parted_in-depth-requires c =
-    let b = c in
     let n = c in (
-      omega (arith, (beyond c).0, b.requires.room),
-      (b.requires.states, ((machine b, keeps c), λ e. c.if-number_at.false (n.number_at.ensures.value ∙ e ∙ sym n.number_at-2.ensures.value))),
+      omega (arith, (beyond c).0, c.requires.room),
+      (c.requires.states, ((machine b, keeps c), λ e. c.if-number_at.false (n.number_at.ensures.value ∙ e ∙ sym n.number_at-2.ensures.value))),
     )
 
 pub returns-then-word-depth : goal.returns-then-word-depth
 returns-then-word-depth c =
-    let b = c in
-    let a = b.args in
-    let d = parted c in record { said = spoken_short (machine b) (lawful b) a.p a.q b.requires.states.0 b.requires.states.1 (cleared (16 * a.sizes.states) a.work-1.now) a.word-1.now c.parted_in-depth.result d.0 d.1 c.if-word-depth.true; beyond = beyond c }
+    let a = c.args in
+    let d = parted c in record { said = spoken_short (machine b) (lawful b) a.p a.q c.requires.states.0 c.requires.states.1 (cleared (16 * a.sizes.states) a.work-1.now) a.word-1.now c.parted_in-depth.result d.0 d.1 c.if-word-depth.true; beyond = beyond c }
 
 pub write_word-requires : goal.write_word-requires
 write_word-requires c =
-    let b = c in
     let d = parted c in (
-      b.requires.held,
+      c.requires.held,
       (
-        (omega (arith, (beyond c).0, b.requires.room), c.if-word-depth.false),
-        (b.requires.states, (b.args.marks.now, keeps c, d.0, d.1)),
+        (omega (arith, (beyond c).0, c.requires.room), c.if-word-depth.false),
+        (c.requires.states, (c.args.marks.now, keeps c, d.0, d.1)),
       ),
     )
 
 pub returns : goal.returns
 returns c =
-    let b = c in
-    let a = b.args in
+    let a = c.args in
     let work = cleared (16 * a.sizes.states) a.work-1.now in
     let d = parted c in
     let r = c.parted_in-depth.result in record {
       said = ap (λ (w : List ℕ). left (gives (r ∷ [])) (work ∷ w ∷ [])) (c.write_word.ensures a.marks.now (keeps c) d.0)
-          ∙ spoken_apart (machine b) (lawful b) a.p a.q b.requires.states.0 b.requires.states.1 work a.word-1.now r d.0 d.1 c.if-word-depth.false;
+          ∙ spoken_apart (machine b) (lawful b) a.p a.q c.requires.states.0 c.requires.states.1 work a.word-1.now r d.0 d.1 c.if-word-depth.false;
       beyond = beyond c;
     }

@@ -25,7 +25,6 @@ accepted c = good c.in-Accepted.is c.judge-judged.ensures
 
 pub returns-in_default : goal.returns-in_default
 returns-in_default c =
-    let b = c in
     let a = c.args in
     let e = b.in_default.is in
     ap (λ (r : Refusal). left (refusal r) (a.work-1.now ∷ a.word-1.now ∷ [])) (c.refused_by.ensures ∙ ap refused_by e)

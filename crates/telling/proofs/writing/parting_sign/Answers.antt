@@ -1,4 +1,4 @@
--- `telling::writing::parting_sign` meets its contract. The loop's invariant: under the signs passed the next states have one name in the layer.
+-- `telling::writing::parting_sign` meets its contract.
 use Prim.Native.Nat.{ℕ, ◌+◌, ◌*◌, ◌≤◌, ◌<◌, ◌-◌}
 use native.Mathlib.Omega.{arith}
 use lib.ListN.{length}
@@ -14,10 +14,9 @@ reads : (c : goal.In-loop-a invariant-loop decreases-loop) (x : ℕ) → x < c.b
     → (2 * (x * c.args.sizes.signs + c.loop-a.a) + 1 < length c.args.nexts.now)
     × (pair_at c.args.nexts.now (2 * (x * c.args.sizes.signs + c.loop-a.a)) < c.args.sizes.states)
 reads c x l =
-    let b = c in
-    let z = b.args.sizes in
+    let z = c.args.sizes in
     let a = c.loop-a.a in
-    let h : Held z.states z.signs z.start b.args.nexts.now = b.requires.held in
+    let h : Held z.states z.signs z.start c.args.nexts.now = c.requires.held in
     (omega (arith, h.long, next_within z.states z.signs x a l c.loop-a-test.true), h.next_in x a l c.loop-a-test.true)
 
 pub loop-a-init : goal.loop-a-init
@@ -35,10 +34,10 @@ pub differ-requires : goal.differ-requires
 differ-requires c =
     let i = c in
     let b = i in (
-      b.requires.room,
+      c.requires.room,
       (
-        (omega (arith, c.next_of-left.ensures.value, (reads i b.args.p b.requires.states.0).1), omega (arith, c.next_of-right.ensures.value, (reads i b.args.q b.requires.states.1).1)),
-        (machine_in b.args.sizes.states b.args.sizes.signs b.args.sizes.start b.requires.kept.0 b.args.nexts.now, b.requires.kept.1),
+        (omega (arith, c.next_of-left.ensures.value, (reads i c.args.p c.requires.states.0).1), omega (arith, c.next_of-right.ensures.value, (reads i c.args.q c.requires.states.1).1)),
+        (machine_in c.args.sizes.states c.args.sizes.signs c.args.sizes.start c.requires.kept.0 c.args.nexts.now, c.requires.kept.1),
       ),
     )
 

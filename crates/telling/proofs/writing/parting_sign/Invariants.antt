@@ -1,4 +1,4 @@
--- `telling::writing::parting_sign` meets its contract. The loop's invariant: under the signs passed the next states have one name in the layer.
+-- What the loop of `telling::writing::parting_sign` keeps: under the signs passed the next states have one name in the layer.
 use Prim.Native.Nat.{ℕ, ◌+◌, ◌*◌, ◌≤◌, ◌<◌, ◌-◌}
 use native.Mathlib.Omega.{arith}
 use lib.ListN.{length}

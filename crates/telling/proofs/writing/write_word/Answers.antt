@@ -1,4 +1,4 @@
--- `telling::writing::write_word` meets its contract. The loop's invariant: the signs written are the word's, and what is to come is the word for the two states
+-- `telling::writing::write_word` meets its contract.
 -- they lead to.
 use Prim.Native.Nat.{ℕ, ◌+◌, ◌*◌, ◌≤◌, ◌<◌, ◌-◌}
 use native.Mathlib.Omega.{arith}
@@ -14,30 +14,26 @@ known : (c : goal.After-parting_sign-a invariant-loop decreases-loop) → c.part
 known c =
     let l = c in
     let b = l in
-    sign_in _ _ _ _ _ _ _ _ b.requires.held b.requires.states.0 b.requires.states.1 b.requires.parted _ _ _ _ _ _ l.loop-i.invariant.1 c.loop-i-test.true b.requires.room.1 c.parting_sign-a.ensures
+    sign_in _ _ _ _ _ _ _ _ c.requires.held c.requires.states.0 c.requires.states.1 c.requires.parted _ _ _ _ _ _ l.loop-i.invariant.1 c.loop-i-test.true c.requires.room.1 c.parting_sign-a.ensures
 
 -- the place of a next state is in the slice
 reads : (c : goal.After-parting_sign-a invariant-loop decreases-loop) (x : ℕ) → x < c.before.before.before.before.before.before.args.sizes.states
     → 2 * (x * c.args.sizes.signs + c.parting_sign-a.result) + 1 < length c.args.nexts.now
 reads c x l =
-    let b = c in
-    let h : Held b.args.sizes.states b.args.sizes.signs b.args.sizes.start b.args.nexts.now = b.requires.held in
-    omega (arith, h.long, next_within b.args.sizes.states b.args.sizes.signs x c.parting_sign-a.result l (known c))
+    let h : Held c.args.sizes.states c.args.sizes.signs c.args.sizes.start c.args.nexts.now = c.requires.held in
+    omega (arith, h.long, next_within c.args.sizes.states c.args.sizes.signs x c.parting_sign-a.result l (known c))
 
 pub loop-i-init : goal.loop-i-init
 loop-i-init c =
-    let b = c in
-    (omega arith, spelling_none _ _ _ _ _ _ _ _ _ b.requires.states.0 b.requires.states.1 b.requires.parted)
+    (omega arith, spelling_none _ _ _ _ _ _ _ _ _ c.requires.states.0 c.requires.states.1 c.requires.parted)
 
 pub parting_sign-a-requires : goal.parting_sign-a-requires
 parting_sign-a-requires c =
-    let b = c in
-    (b.requires.held, (b.requires.room.0, (c.loop-i.invariant.1.states, (b.requires.parted.0, b.requires.parted.1))))
+    (c.requires.held, (c.requires.room.0, (c.loop-i.invariant.1.states, (c.requires.parted.0, c.requires.parted.1))))
 
 pub overflow_cast-word : goal.overflow_cast-word
 overflow_cast-word c =
-    let b = c in
-    let h : Held b.args.sizes.states b.args.sizes.signs b.args.sizes.start b.args.nexts.now = b.requires.held in
+    let h : Held c.args.sizes.states c.args.sizes.signs c.args.sizes.start c.args.nexts.now = c.requires.held in
     omega (arith, known c, h.range.signs_most)
 
 pub bounds-word-i : goal.bounds-word-i
@@ -54,10 +50,10 @@ loop-i-preserved c =
     let s = c in
     let l = s in
     let b = l in
-    (omega arith, spelling_more _ _ _ _ _ _ _ _ b.requires.held b.requires.states.0 b.requires.states.1 b.requires.parted _ _ _ _ _ _ l.loop-i.invariant.1 s.loop-i-test.true b.requires.room.1 s.parting_sign-a.ensures _ _ c.next_of-one.ensures.value c.next_of-other.ensures.value)
+    (omega arith, spelling_more _ _ _ _ _ _ _ _ c.requires.held c.requires.states.0 c.requires.states.1 c.requires.parted _ _ _ _ _ _ l.loop-i.invariant.1 s.loop-i-test.true c.requires.room.1 s.parting_sign-a.ensures _ _ c.next_of-one.ensures.value c.next_of-other.ensures.value)
 
 pub returns : goal.returns
 returns c =
     let l = c in
     let b = l in
-    spelling_done _ _ _ _ _ _ _ _ b.requires.held b.requires.states.0 b.requires.states.1 b.requires.parted _ _ _ _ _ b.requires.room.1 (omega arith) l.loop-i.invariant.1
+    spelling_done _ _ _ _ _ _ _ _ c.requires.held c.requires.states.0 c.requires.states.1 c.requires.parted _ _ _ _ _ c.requires.room.1 (omega arith) l.loop-i.invariant.1

@@ -1,4 +1,4 @@
--- `telling::writing::write_word` meets its contract. The loop's invariant: the signs written are the word's, and what is to come is the word for the two states
+-- What the loop of `telling::writing::write_word` keeps: the signs written are the word's, and what is to come is the word for the two states
 -- they lead to.
 use Prim.Native.Nat.{ℕ, ◌+◌, ◌*◌, ◌≤◌, ◌<◌, ◌-◌}
 use native.Mathlib.Omega.{arith}
