@@ -7,21 +7,14 @@ use native.Mathlib.Omega.{arith}
 use borrow.Author.Rules.{rules}
 use Rattle.telling.proofs.climbing.later_birth.Goals as goal
 
--- the two births
-abbrev one : goal.Start → ℕ
-one b = born c.args.n c.args.work.now c.args.one
-
-abbrev other : goal.Start → ℕ
-other b = born c.args.n c.args.work.now c.args.other
-
 pub returns-then-birth-later : goal.returns-then-birth-later
 unfolding pick
 returns-then-birth-later c =
     let f = c.number_at-later.ensures.value in
-    rw (lt-ltb (one b) (other b) (omega (arith, c.if-birth-later.true, c.number_at-birth.ensures.value, f))) f
+    rw (lt-ltb (born c.args.n c.args.work.now c.args.one) (born c.args.n c.args.work.now c.args.other) (omega (arith, c.if-birth-later.true, c.number_at-birth.ensures.value, f))) f
 
 pub returns-else-birth-later : goal.returns-else-birth-later
 unfolding pick
 returns-else-birth-later c =
     let e = c.number_at-birth.ensures.value in
-    rw (le-ltb (one b) (other b) (omega (arith, c.if-birth-later.false, e, c.number_at-later.ensures.value))) e
+    rw (le-ltb (born c.args.n c.args.work.now c.args.one) (born c.args.n c.args.work.now c.args.other) (omega (arith, c.if-birth-later.false, e, c.number_at-later.ensures.value))) e

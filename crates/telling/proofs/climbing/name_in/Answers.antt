@@ -7,14 +7,6 @@ use native.Mathlib.Omega.{arith}
 use borrow.Author.Rules.{rules}
 use Rattle.telling.proofs.climbing.name_in.Goals as goal
 
-low : (c : goal.At-loop-name invariant-loop decreases-loop) → c.loop.name < c.before.before.before.args.n
-low c =
-    climbed_low c.args.n c.args.work.now c.args.x c.args.layer c.loop-name.name c.loop-name.invariant c.requires.kept
-
--- the name is born after the layer asked
-late : (c : goal.In-loop-name invariant-loop decreases-loop) → c.before.before.before.before.before.args.layer < born c.before.before.before.before.before.args.n c.before.before.before.before.before.args.work.now c.before.before.loop.name
-late c = omega (arith, c.loop-name-test.true, c.number_at.ensures.value)
-
 pub number_at-name-requires : goal.number_at-name-requires
 number_at-name-requires c = omega (arith, c.requires.room, c.requires.state)
 
@@ -24,35 +16,28 @@ loop-name-init c =
     (climbed_none c.args.n c.args.work.now c.args.x c.args.layer c.requires.state)
 
 pub overflow_add-n : goal.overflow_add-n
-overflow_add-n c = let l = low c in search rules
+overflow_add-n c = let l = climbed_low c.args.n c.args.work.now c.args.x c.args.layer c.loop-name.name c.loop-name.invariant c.requires.kept in search rules
 
 pub number_at-requires : goal.number_at-requires
-number_at-requires c = omega (arith, low c, c.requires.room)
+number_at-requires c = omega (arith, climbed_low c.args.n c.args.work.now c.args.x c.args.layer c.loop-name.name c.loop-name.invariant c.requires.kept, c.requires.room)
 
 pub overflow_add-n-in-loop-name : goal.overflow_add-n-in-loop-name
-overflow_add-n-in-loop-name c = let l = low c in search rules
+overflow_add-n-in-loop-name c = let l = climbed_low c.args.n c.args.work.now c.args.x c.args.layer c.loop-name.name c.loop-name.invariant c.requires.kept in search rules
 
 pub number_at-name-requires-in-loop-name : goal.number_at-name-requires-in-loop-name
-number_at-name-requires-in-loop-name c = omega (arith, low c, c.requires.room)
+number_at-name-requires-in-loop-name c = omega (arith, climbed_low c.args.n c.args.work.now c.args.x c.args.layer c.loop-name.name c.loop-name.invariant c.requires.kept, c.requires.room)
 
 pub loop-name-smaller : goal.loop-name-smaller
 loop-name-smaller c =
-    let t = c in
-    let m = t in
-    let b = m in
-    let l = climbed_less c.args.n c.args.work.now c.args.x c.args.layer m.loop-name.name m.loop-name.invariant c.requires.kept (late t) in
-    omega (arith, l, c.number_at-name-in-loop-name.ensures.value)
+    let late : c.args.layer < born c.args.n c.args.work.now c.loop-name.name = omega (arith, c.loop-name-test.true, c.number_at.ensures.value) in
+    omega (arith, climbed_less c.args.n c.args.work.now c.args.x c.args.layer c.loop-name.name c.loop-name.invariant c.requires.kept late, c.number_at-name-in-loop-name.ensures.value)
 
 pub loop-name-preserved : goal.loop-name-preserved
 loop-name-preserved c =
-    let t = c in
-    let m = t in
-    let b = m in
+    let late : c.args.layer < born c.args.n c.args.work.now c.loop-name.name = omega (arith, c.loop-name-test.true, c.number_at.ensures.value) in
     subst (Climbed c.args.n c.args.work.now c.args.x c.args.layer) (sym c.number_at-name-in-loop-name.ensures.value)
-    (climbed_more c.args.n c.args.work.now c.args.x c.args.layer m.loop-name.name m.loop-name.invariant (late t))
+    (climbed_more c.args.n c.args.work.now c.args.x c.args.layer c.loop-name.name c.loop-name.invariant late)
 
 pub returns : goal.returns
 returns c =
-    let m = c in
-    let b = m in
-    climbed_done c.args.n c.args.work.now c.args.x c.args.layer m.loop-name.name m.loop-name.invariant (omega (arith, c.number_at.ensures.value, c.loop-name-test.false))
+    climbed_done c.args.n c.args.work.now c.args.x c.args.layer c.loop-name.name c.loop-name.invariant (omega (arith, c.number_at.ensures.value, c.loop-name-test.false))

@@ -5,10 +5,6 @@ use native.Mathlib.Omega.{arith}
 use borrow.Author.Rules.{rules}
 use Rattle.telling.proofs.climbing.parted_in.Goals as goal
 
-low : (c : goal.At-loop-n invariant-loop decreases-loop) → (c.loop.one < c.before.before.before.before.args.n) × (c.loop.other < c.before.before.before.before.args.n)
-low c =
-    traced_low c.args.n c.args.work.now c.args.p c.args.q c.loop-n.one c.loop-n.other c.loop-n.invariant c.requires.kept
-
 pub number_at-one-requires : goal.number_at-one-requires
 number_at-one-requires c = omega (arith, c.requires.room, c.requires.states.0)
 
@@ -21,43 +17,28 @@ loop-n-init c =
     (traced_none c.args.n c.args.work.now c.args.p c.args.q c.requires.states.0 c.requires.states.1 c.requires.apart)
 
 pub later_birth-layer-requires : goal.later_birth-layer-requires
-later_birth-layer-requires c = record { room = c.requires.room; states = low c }
+later_birth-layer-requires c = record { room = c.requires.room; states = traced_low c.args.n c.args.work.now c.args.p c.args.q c.loop-n.one c.loop-n.other c.loop-n.invariant c.requires.kept }
 
 pub returns-then-layer-eq0 : goal.returns-then-layer-eq0
-returns-then-layer-eq0 c =
-    let m = c in
-    let b = m in
-    traced_first c.args.n c.args.work.now c.args.p c.args.q m.loop-n.one m.loop-n.other m.loop-n.invariant c.later_birth-layer.result c.later_birth-layer.ensures c.if-layer-eq0.true
+returns-then-layer-eq0 c = traced_first c.args.n c.args.work.now c.args.p c.args.q c.loop-n.one c.loop-n.other c.loop-n.invariant c.later_birth-layer.result c.later_birth-layer.ensures c.if-layer-eq0.true
 
 pub name_before-one-requires : goal.name_before-one-requires
-name_before-one-requires c = record { room = c.requires.room; state = (low c).0 }
+name_before-one-requires c = record { room = c.requires.room; state = (traced_low c.args.n c.args.work.now c.args.p c.args.q c.loop-n.one c.loop-n.other c.loop-n.invariant c.requires.kept).0 }
 
 pub name_before-other-requires : goal.name_before-other-requires
-name_before-other-requires c = record { room = c.requires.room; state = (low c).1 }
+name_before-other-requires c = record { room = c.requires.room; state = (traced_low c.args.n c.args.work.now c.args.p c.args.q c.loop-n.one c.loop-n.other c.loop-n.invariant c.requires.kept).1 }
 
 pub returns-then-one-other : goal.returns-then-one-other
 returns-then-one-other c =
-    let o = c in
-    let e = o in
-    let m = e in
-    let b = m in
-    traced_found c.args.n c.args.work.now c.args.p c.args.q m.loop-n.one m.loop-n.other m.loop-n.invariant e.later_birth-layer.result e.later_birth-layer.ensures
-    e.if-layer-eq0.false o.name_before-one.result o.name_before-other.result o.name_before-one.ensures o.name_before-other.ensures c.if-one-other.true
+    traced_found c.args.n c.args.work.now c.args.p c.args.q c.loop-n.one c.loop-n.other c.loop-n.invariant c.later_birth-layer.result c.later_birth-layer.ensures
+    c.if-layer-eq0.false c.name_before-one.result c.name_before-other.result c.name_before-one.ensures c.name_before-other.ensures c.if-one-other.true
 
 pub loop-n-smaller : goal.loop-n-smaller
 loop-n-smaller c =
-    let o = c in
-    let e = o in
-    let m = e in
-    let b = m in
-    traced_less c.args.n c.args.work.now c.args.p c.args.q m.loop-n.one m.loop-n.other m.loop-n.invariant e.later_birth-layer.result e.later_birth-layer.ensures
-    e.if-layer-eq0.false o.name_before-one.result o.name_before-other.result o.name_before-one.ensures o.name_before-other.ensures c.requires.kept
+    traced_less c.args.n c.args.work.now c.args.p c.args.q c.loop-n.one c.loop-n.other c.loop-n.invariant c.later_birth-layer.result c.later_birth-layer.ensures
+    c.if-layer-eq0.false c.name_before-one.result c.name_before-other.result c.name_before-one.ensures c.name_before-other.ensures c.requires.kept
 
 pub loop-n-preserved : goal.loop-n-preserved
 loop-n-preserved c =
-    let o = c in
-    let e = o in
-    let m = e in
-    let b = m in
-    traced_more c.args.n c.args.work.now c.args.p c.args.q m.loop-n.one m.loop-n.other m.loop-n.invariant e.later_birth-layer.result e.later_birth-layer.ensures
-    e.if-layer-eq0.false o.name_before-one.result o.name_before-other.result o.name_before-one.ensures o.name_before-other.ensures c.if-one-other.false
+    traced_more c.args.n c.args.work.now c.args.p c.args.q c.loop-n.one c.loop-n.other c.loop-n.invariant c.later_birth-layer.result c.later_birth-layer.ensures
+    c.if-layer-eq0.false c.name_before-one.result c.name_before-other.result c.name_before-one.ensures c.name_before-other.ensures c.if-one-other.false

@@ -1,5 +1,4 @@
--- What the loop of `telling::writing::write_word` keeps: the signs written are the word's, and what is to come is the word for the two states
--- they lead to.
+-- What the loop of `telling::writing::write_word` keeps: the signs written are the word's, and what is to come is the word for the two states they lead to.
 use Prim.Native.Nat.{ℕ, ◌+◌, ◌*◌, ◌≤◌, ◌<◌, ◌-◌}
 use native.Mathlib.Omega.{arith}
 use lib.ListN.{length}
