@@ -20,61 +20,51 @@ use native.Mathlib.Omega.{arith}
 use borrow.Author.Rules.{rules}
 use Rattle.telling.proofs.words.tell.Goals as goal
 
-accepted : (c : goal.In-Accepted) → Good c.before.before.before.before.before.before.before.args.file.now c.before.judged.given.0.0
-accepted c = good c.in-Accepted.is c.judge-judged.ensures
-
 pub returns-in_default : goal.returns-in_default
 returns-in_default c =
     let a = c.args in
-    let e = b.in_default.is in
-    ap (λ (r : Refusal). left (refusal r) (a.work-1.now ∷ a.word-1.now ∷ [])) (c.refused_by.ensures ∙ ap refused_by e)
-    ∙ tell_refused a.file.now a.p a.q a.work-1.now a.word-1.now (sym b.judge-judged.ensures ∙ ap judgedTold e)
+    let e = c.in_default.is in
+    ap (λ (r : Refusal). left (refusal r) (a.work.now ∷ a.word.now ∷ [])) (c.refused_by.ensures ∙ ap refused_by e)
+    ∙ tell_refused a.file.now a.p a.q a.work.now a.word.now (sym c.judge-judged.ensures ∙ ap judgedTold e)
 
 pub returns-then-n-p : goal.returns-then-n-p
-returns-then-n-p c = tell-first _ _ (accepted c) _ _ _ _ c.if-n-p.true
+returns-then-n-p c = tell-first _ _ (good c.in-Accepted.is c.judge-judged.ensures) _ _ _ _ c.if-n-p.true
 
 pub returns-then-n-q : goal.returns-then-n-q
-returns-then-n-q c = tell_second _ _ (accepted c) _ _ _ _ c.if-n-p.false c.if-n-q.true
+returns-then-n-q c = tell_second _ _ (good c.in-Accepted.is c.judge-judged.ensures) _ _ _ _ c.if-n-p.false c.if-n-q.true
 
 pub overflow_mul-room : goal.overflow_mul-room
-overflow_mul-room c = omega (arith, (accepted c).range.states_most)
+overflow_mul-room c = omega (arith, (good c.in-Accepted.is c.judge-judged.ensures).range.states_most)
 
 pub returns-then-work-room : goal.returns-then-work-room
-returns-then-work-room c = tell_narrow _ _ (accepted c) _ _ _ _ c.if-n-p.false c.if-n-q.false c.if-work-room.true
+returns-then-work-room c = tell_narrow _ _ (good c.in-Accepted.is c.judge-judged.ensures) _ _ _ _ c.if-n-p.false c.if-n-q.false c.if-work-room.true
 
 pub field_of-marks-requires : goal.field_of-marks-requires
-field_of-marks-requires c = accepted c
+field_of-marks-requires c = good c.in-Accepted.is c.judge-judged.ensures
 
 pub field_of-nexts-requires : goal.field_of-nexts-requires
-field_of-nexts-requires c = accepted c
+field_of-nexts-requires c = good c.in-Accepted.is c.judge-judged.ensures
 
-pub find_word-parting-requires : goal.find_word-parting-requires
-find_word-parting-requires c =
-    let f = c in
-    let k = c in
-    let z = k.in-Accepted.sizes in
-    let m = marks_handed z f.field_of-marks.ensures in (
-      (
-        ap length m ∙ marks_long _ z (accepted k),
-        λ q l. subst (λ (marks : List ℕ). at marks q < 2) (sym m) (marks_small _ z (accepted k) q l),
-      ),
-      (
-        subst (Held z.states z.signs z.start) (sym (nexts_handed z f.field_of-nexts.ensures)) (held _ z (accepted k)),
-        (omega (arith, c.if-work-room.false), (c.if-n-p.false, c.if-n-q.false)),
-      ),
-    )
+pub find_word-parting-requires-clause-marked : goal.find_word-parting-requires-clause-marked
+find_word-parting-requires-clause-marked c =
+    let z = c.in-Accepted.sizes in
+    let g = good c.in-Accepted.is c.judge-judged.ensures in
+    let m = marks_handed z c.field_of-marks.ensures in
+    (ap length m ∙ marks_long _ z g, λ q l. subst (λ (marks : List ℕ). at marks q < 2) (sym m) (marks_small _ z g q l))
+
+pub find_word-parting-requires-clause-held : goal.find_word-parting-requires-clause-held
+find_word-parting-requires-clause-held c =
+    let z = c.in-Accepted.sizes in
+    subst (Held z.states z.signs z.start) (sym (nexts_handed z c.field_of-nexts.ensures)) (held _ z (good c.in-Accepted.is c.judge-judged.ensures))
 
 pub returns : goal.returns
 returns c =
-    let k = c in
-    let z = k.in-Accepted.sizes in
+    let z = c.in-Accepted.sizes in
     let a = c.args in
     let f = c.find_word-parting in
-    let g = c in
     let room = 16 * z.states in
-    let word = f.new.1.1.1.1.1.1.0 in
-    ap (λ (w : List ℕ). left (told f.result) (w ∷ word ∷ []))
-    (c.clear.ensures ∙ cleared_same room f.new.1.1.1.1.1.0 a.work-1.now f.ensures.1.0 (λ j l. f.ensures.1.1 j (omega arith)))
-    ∙ subst₂ (λ (marks nexts : List ℕ). left (told f.result) (cleared room a.work-1.now ∷ word ∷ []) ≡ spoken (telling (machine_in z.states z.signs z.start marks nexts) a.p a.q) (cleared room a.work-1.now) a.word-1.now)
-    (marks_handed z g.field_of-marks.ensures) (nexts_handed z g.field_of-nexts.ensures) f.ensures.0
-    ∙ tell-spoken a.file.now z (accepted k) a.p a.q a.work-1.now a.word-1.now c.if-n-p.false c.if-n-q.false c.if-work-room.false
+    ap (λ (w : List ℕ). left (told f.result) (w ∷ f.new.word ∷ []))
+    (c.clear.ensures ∙ cleared_same room f.new.work a.work.now f.ensures.beyond.0 (λ j l. f.ensures.beyond.1 j (omega arith)))
+    ∙ subst₂ (λ (marks nexts : List ℕ). left (told f.result) (cleared room a.work.now ∷ f.new.word ∷ []) ≡ spoken (telling (machine_in z.states z.signs z.start marks nexts) a.p a.q) (cleared room a.work.now) a.word.now)
+    (marks_handed z c.field_of-marks.ensures) (nexts_handed z c.field_of-nexts.ensures) f.ensures.said
+    ∙ tell-spoken a.file.now z (good c.in-Accepted.is c.judge-judged.ensures) a.p a.q a.work.now a.word.now c.if-n-p.false c.if-n-q.false c.if-work-room.false
