@@ -8,4 +8,4 @@ returns c =
     let a = c.args in
     let m = c.mark_names in
     let k = c.clear_births in
-    begun_born a.n a.marks.now a.work-1.now m.new.1.0 k.new.0 m.ensures k.ensures
+    begun_born a.n a.marks.now a.work.now m.new.names k.new.work m.ensures k.ensures

@@ -17,68 +17,57 @@ use native.Mathlib.Omega.{arith}
 use borrow.Author.Rules.{rules}
 use Rattle.layering.proofs.layers.layers.Goals as goal
 
-accepted : (c : goal.In-Accepted) → Good c.before.before.before.before.before.before.before.args.file.now c.before.judged.given.0.0
-accepted c = good c.in-Accepted.is c.judge-judged.ensures
-
 pub returns-in_default : goal.returns-in_default
 returns-in_default c =
-    let b = c in
     let a = c.args in
-    let e = b.in_default.is in
-    ap (λ (r : Refusal). left (refusal r) (a.work-1.now ∷ a.result.now ∷ [])) (c.refused_by.ensures ∙ ap refused_by e)
-    ∙ layers_refused a.file.now a.work-1.now a.result.now (sym b.judge-judged.ensures ∙ ap judgedTold e)
+    let e = c.in_default.is in
+    ap (λ (r : Refusal). left (refusal r) (a.work.now ∷ a.res.now ∷ [])) (c.refused_by.ensures ∙ ap refused_by e)
+    ∙ layers_refused a.file.now a.work.now a.res.now (sym c.judge-judged.ensures ∙ ap judgedTold e)
 
 pub overflow_mul-room : goal.overflow_mul-room
-overflow_mul-room c = omega (arith, (accepted c).range.states_most)
+overflow_mul-room c = omega (arith, (good c.in-Accepted.is c.judge-judged.ensures).range.states_most)
 
 pub returns-then-work-room : goal.returns-then-work-room
-returns-then-work-room c = layers_narrow _ _ (accepted c) _ _ c.if-work-room.true
+returns-then-work-room c = layers_narrow _ _ (good c.in-Accepted.is c.judge-judged.ensures) _ _ c.if-work-room.true
 
 pub returns-then-res-n : goal.returns-then-res-n
 returns-then-res-n c =
-    let k = c in
-    let z = k.in-Accepted.sizes in
+    let z = c.in-Accepted.sizes in
     let a = c.args in
-    ap (λ (w : List ℕ). left (refuses 12 z.states) (w ∷ a.result.now ∷ [])) c.clear.ensures
-    ∙ layers_short a.file.now z (accepted k) a.work-1.now a.result.now (omega arith) (omega arith)
+    ap (λ (w : List ℕ). left (refuses 12 z.states) (w ∷ a.res.now ∷ [])) c.clear.ensures
+    ∙ layers_short a.file.now z (good c.in-Accepted.is c.judge-judged.ensures) a.work.now a.res.now c.if-work-room.false c.if-res-n.true
 
 pub field_of-marks-requires : goal.field_of-marks-requires
-field_of-marks-requires c = accepted c
+field_of-marks-requires c = good c.in-Accepted.is c.judge-judged.ensures
 
 pub field_of-nexts-requires : goal.field_of-nexts-requires
-field_of-nexts-requires c = accepted c
+field_of-nexts-requires c = good c.in-Accepted.is c.judge-judged.ensures
 
 pub find_classes-rounds-requires : goal.find_classes-rounds-requires
 find_classes-rounds-requires c =
-    let f = c in
-    let k = c in
-    let z = k.in-Accepted.sizes in
-    let m = marks_handed z f.field_of-marks.ensures in (
-      (
-        ap length m ∙ marks_long _ z (accepted k),
-        λ q l. subst (λ (marks : List ℕ). at marks q < 2) (sym m) (marks_small _ z (accepted k) q l),
-      ),
-      (
-        subst (Held z.states z.signs z.start) (sym (nexts_handed z f.field_of-nexts.ensures)) (held _ z (accepted k)),
-        omega arith,
-      ),
-    )
+    let z = c.in-Accepted.sizes in
+    let g = good c.in-Accepted.is c.judge-judged.ensures in
+    let m = marks_handed z c.field_of-marks.ensures in
+    record {
+      marked = (ap length m ∙ marks_long _ z g, λ q l. subst (λ (marks : List ℕ). at marks q < 2) (sym m) (marks_small _ z g q l));
+      held = subst (Held z.states z.signs z.start) (sym (nexts_handed z c.field_of-nexts.ensures)) (held _ z g);
+      room = omega (arith, c.if-work-room.false);
+    }
 
 pub write_names-classes-requires : goal.write_names-classes-requires
 write_names-classes-requires c =
-    let k = c in
-    (omega (arith, c.find_classes-rounds.ensures.long), omega arith, omega (arith, (accepted k).range.states_most))
+    let g = good c.in-Accepted.is c.judge-judged.ensures in
+    (omega (arith, c.find_classes-rounds.ensures.long, c.if-work-room.false), omega (arith, c.if-res-n.false), g.range.states_most)
 
 pub returns : goal.returns
 returns c =
-    let k = c in
-    let z = k.in-Accepted.sizes in
+    let z = c.in-Accepted.sizes in
     let a = c.args in
     let f = c.find_classes-rounds in
     let w = c.write_names-classes in
     let s =
-    subst₂ (λ (marks nexts : List ℕ). Settled (machine_in z.states z.signs z.start marks nexts) a.work-1.now f.new.1.1.1.0 f.result)
+    subst₂ (λ (marks nexts : List ℕ). Settled (machine_in z.states z.signs z.start marks nexts) a.work.now f.new.work f.result)
     (marks_handed z c.field_of-marks.ensures) (nexts_handed z c.field_of-nexts.ensures) f.ensures
     in
-    ap₂ left (ap (λ (m : ℕ). gives (m ∷ f.result ∷ [])) w.ensures.0) (ap₂ (λ (v u : List ℕ). v ∷ u ∷ []) c.clear-2.ensures w.ensures.1)
-    ∙ layers_found a.file.now z (accepted k) a.work-1.now a.result.now (omega (arith, c.if-work-room.false)) (omega (arith, c.if-res-n.false)) f.new.1.1.1.0 f.result s
+    ap₂ left (ap (λ (m : ℕ). gives (m ∷ f.result ∷ [])) w.ensures.names) (ap₂ (λ (v u : List ℕ). v ∷ u ∷ []) c.clear-2.ensures w.ensures.copied)
+    ∙ layers_found a.file.now z (good c.in-Accepted.is c.judge-judged.ensures) a.work.now a.res.now c.if-work-room.false c.if-res-n.false f.new.work f.result s

@@ -8,12 +8,6 @@ use native.Mathlib.Omega.{arith}
 use borrow.Author.Rules.{rules}
 use Rattle.layering.proofs.layers.write_names.Goals as goal
 
--- LOST mul-result : tie.Need-overflow-mul-result invariant-loop decreases-loop
--- mul-result c = omega arith
-
--- LOST slice-write-result : tie.Need-slice-write-result invariant-loop decreases-loop
--- slice-write-result c = omega (arith, c.before.before.loop.invariant.1.long)
-
 pub loop-q-init : goal.loop-q-init
 loop-q-init c = (omega arith, copied_none c.args.work.now c.args.res.now)
 

@@ -1,7 +1,7 @@
 -- `layering::rounds::bucket_of` meets its contract. The loop's invariant: the names under the signs passed are mixed.
 use Prim.Native.Nat.{ℕ, ◌+◌, ◌*◌, ◌/◌, ◌%◌, ◌≤◌, ◌<◌, ◌-◌}
 use mathlib.Core.Path.{◌≡◌, ap, ap₂, ◌∙◌}
-use mathlib.Core.List.{[]}
+use mathlib.Core.List.{List, []}
 use native.Mathlib.Nat.{mod-lt}
 use native.Mathlib.Numerals.{add-one}
 use native.Mathlib.Omega.{arith}
@@ -14,16 +14,10 @@ use Rattle.layering.specs.Work.{bucket, mixed}
 use borrow.Author.Rules.{rules}
 use Rattle.layering.proofs.rounds.bucket_of.Goals as goal
 
--- the place of the next state is in the slice, and the next state has a name
-reads : (c : goal.In-loop-sign invariant-loop decreases-loop)
-    → (2 * (c.args.q * c.args.sizes.signs + c.loop-sign.sign) + 1 < length c.args.nexts.now)
-    × (pair_at c.args.nexts.now (2 * (c.args.q * c.args.sizes.signs + c.loop-sign.sign)) < length c.args.work.now)
-reads c =
-    let b = c in
-    let z = b.args.sizes in
-    let a = c.loop-sign.sign in
-    let h : Held z.states z.signs z.start b.args.nexts.now = b.requires.held in
-    (omega (arith, h.long, next_within z.states z.signs b.args.q a b.requires.state c.loop-sign-test.true), omega (arith, h.next_in b.args.q a b.requires.state c.loop-sign-test.true, b.requires.room))
+-- The place of the next state under the sign is in the slice, and the next state has a name.
+reads : {n k start : ℕ} {nexts : List ℕ} (work : List ℕ) (x a : ℕ) → Held n k start nexts → 6 * n ≤ length work → x < n → a < k
+    → (2 * (x * k + a) + 1 < length nexts) × (pair_at nexts (2 * (x * k + a)) < length work)
+reads {n = n} {k = k} work x a h room l m = (omega (arith, h.long, next_within n k x a l m), omega (arith, h.next_in x a l m, room))
 
 pub number_at-mixed-requires : goal.number_at-mixed-requires
 number_at-mixed-requires c = omega (arith, c.requires.room, c.requires.state)
@@ -33,10 +27,10 @@ unfolding mixed
 loop-sign-init c = (omega arith, c.number_at-mixed.ensures.value, omega (arith, c.number_at-mixed.ensures.small))
 
 pub next_of-requires : goal.next_of-requires
-next_of-requires c = (reads c).0
+next_of-requires c = (reads c.args.work.now c.args.q c.loop-sign.sign c.requires.held c.requires.room c.requires.state c.loop-sign-test.true).0
 
 pub number_at-name-requires : goal.number_at-name-requires
-number_at-name-requires c = omega (arith, c.next_of.ensures.value, (reads c).1)
+number_at-name-requires c = omega (arith, c.next_of.ensures.value, (reads c.args.work.now c.args.q c.loop-sign.sign c.requires.held c.requires.room c.requires.state c.loop-sign-test.true).1)
 
 pub overflow_mul-mixed : goal.overflow_mul-mixed
 overflow_mul-mixed c = omega (arith, c.loop-sign.invariant.2)

@@ -6,19 +6,16 @@ use Rattle.layering.proofs.rounds.find_classes.Goals as goal
 
 pub settle-requires : goal.settle-requires
 settle-requires c =
-    let b = c in
     let f = c.first_names in
-    let z = b.args.sizes in (
-      b.requires.held,
-      (
-        omega (arith, f.ensures.long, b.requires.room),
-        begins z.states z.signs z.start b.args.marks.now b.args.nexts.now b.args.work-1.now f.new.1.0 f.ensures,
-      ),
-    )
+    let z = c.args.sizes in
+    record {
+      held = c.requires.held;
+      room = omega (arith, f.ensures.long, c.requires.room);
+      begun = begins z.states z.signs z.start c.args.marks.now c.args.nexts.now c.args.work.now f.new.work f.ensures;
+    }
 
 pub returns : goal.returns
 returns c =
-    let b = c in
     let f = c.first_names in
-    let z = b.args.sizes in
-    settled z.states z.signs z.start b.args.marks.now b.args.nexts.now b.args.work-1.now f.new.1.0 f.ensures _ _ c.settle.ensures
+    let z = c.args.sizes in
+    settled z.states z.signs z.start c.args.marks.now c.args.nexts.now c.args.work.now f.new.work f.ensures _ _ c.settle.ensures

@@ -10,60 +10,41 @@ use Rattle.layering.proofs.Rounding.{round_begins, round_from, round_goes_on, ro
 use borrow.Author.Rules.{rules}
 use Rattle.layering.proofs.rounds.run_round.Goals as goal
 
--- the slice with its buckets emptied
-abbrev cleared : goal.After-slice_known-2-1 invariant-loop decreases-loop → List ℕ
-cleared c = c.clear_heads.new.0
-
-emptied : (c : goal.After-slice_known-2-1 invariant-loop decreases-loop) → Emptied c.before.before.before.before.before.before.args.sizes.states c.before.before.before.before.before.before.args.sizes.states c.before.before.before.before.before.before.args.work.now (cleared c)
-emptied c = c.clear_heads.ensures
-
 pub clear_heads-requires : goal.clear_heads-requires
 clear_heads-requires c = (c.requires.room, c.requires.held.range.states_most)
 
 pub loop-q-init : goal.loop-q-init
-loop-q-init c = (omega arith, round_begins _ (cleared c) _ (emptied c).empty)
+loop-q-init c = (omega arith, round_begins _ c.clear_heads.new.work _ c.clear_heads.ensures.empty)
 
 pub name_state-fresh-requires : goal.name_state-fresh-requires
 name_state-fresh-requires c =
-    let l = c.loop-q in
-    let s = c in
-    let b = s in (
-      b.requires.held,
-      (
-        omega (arith, l.invariant.1.long, (emptied s).long, b.requires.room),
-        (
-          (c.loop-q-test.true, b.requires.small),
-          (named_same _ b.args.work-1.now l.work-1 (λ x m. l.invariant.1.same x m ∙ (emptied s).below x (omega arith)) b.requires.named, l.invariant.1.done),
-        ),
-      ),
-    )
+    let i = c.loop-q.invariant.1 in
+    let e = c.clear_heads.ensures in
+    record {
+      held = c.requires.held;
+      room = omega (arith, i.long, e.long, c.requires.room);
+      state = (c.loop-q-test.true, c.requires.small);
+      named = named_same _ c.args.work.now c.loop-q.work (λ x m. i.same x m ∙ e.below x (omega arith)) c.requires.named;
+      done = i.done;
+    }
 
 pub overflow_add-q : goal.overflow_add-q
-overflow_add-q c =
-    let i = c in
-    let b = i in
-    omega (arith, i.loop-q-test.true, b.requires.held.range.states_most)
+overflow_add-q c = omega (arith, c.loop-q-test.true, c.requires.held.range.states_most)
 
 pub loop-q-smaller : goal.loop-q-smaller
 loop-q-smaller c = omega (arith, c.loop-q-test.true)
 
 pub loop-q-preserved : goal.loop-q-preserved
 loop-q-preserved c =
-    let i = c in
-    let l = i.loop-q in
-    let s = i in
-    let b = s in
-    let t = i.loop-q-test.true in
-    let a = c.name_state-fresh.ensures in (
+    let l = c.loop-q in
+    let t = c.loop-q-test.true in (
       omega (arith, t),
-      rounded_as (sym (add-one l.q)) (sym c.either-changed.ensures) (round_goes_on _ (cleared s) l.work-1 _ b.args.layer l.q t l.changed _ l.invariant.1 a),
+      rounded_as (sym (add-one l.q)) (sym c.either-changed.ensures) (round_goes_on _ c.clear_heads.new.work l.work _ c.args.layer l.q t l.changed _ l.invariant.1 c.name_state-fresh.ensures),
     )
 
 pub returns : goal.returns
 returns c =
     let l = c.loop-q in
-    let s = c in
-    let b = s in
-    let z = b.args.sizes in
+    let z = c.args.sizes in
     let e : l.q ≡ z.states = omega (arith, l.invariant.0, c.loop-q-test.false) in
-    round_from (machine_in z.states z.signs z.start [] b.args.nexts.now) b.args.work-1.now (cleared s) l.work-1 b.args.layer l.changed (emptied s) (rounded_as e refl l.invariant.1)
+    round_from (machine_in z.states z.signs z.start [] c.args.nexts.now) c.args.work.now c.clear_heads.new.work l.work c.args.layer l.changed c.clear_heads.ensures (rounded_as e refl l.invariant.1)

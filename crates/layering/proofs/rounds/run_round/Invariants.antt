@@ -11,7 +11,7 @@ use Rattle.layering.proofs.rounds.run_round.Given as goal
 
 abbrev pub invariant-loop-q : goal.invariant-loop-q
 invariant-loop-q l =
-    (l.q ≤ l.sizes.states) × Rounded (machine_in l.sizes.states l.sizes.signs l.sizes.start [] l.nexts) l.initial.work-1 l.work-1 l.layer l.q l.changed
+    (l.q ≤ l.sizes.states) × Rounded (machine_in l.sizes.states l.sizes.signs l.sizes.start [] l.nexts) l.initial.work l.work l.layer l.q l.changed
 
 abbrev pub decreases-loop-q : goal.decreases-loop-q
 decreases-loop-q l = l.sizes.states - l.q

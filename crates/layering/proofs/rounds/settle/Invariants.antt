@@ -13,9 +13,9 @@ use Rattle.layering.proofs.rounds.settle.Given as goal
 
 abbrev pub invariant-loop-sizes : goal.invariant-loop-sizes
 invariant-loop-sizes l =
-    (length l.work-1 ≡ length l.initial.work-1)
-    × InLayer (machine_in l.sizes.states l.sizes.signs l.sizes.start (take l.sizes.states l.initial.work-1) l.nexts) l.i l.work-1
-    × ((j : ℕ) → 6 * l.sizes.states ≤ j → at l.work-1 j ≡ at l.initial.work-1 j)
+    (length l.work ≡ length l.initial.work)
+    × InLayer (machine_in l.sizes.states l.sizes.signs l.sizes.start (take l.sizes.states l.initial.work) l.nexts) l.i l.work
+    × ((j : ℕ) → 6 * l.sizes.states ≤ j → at l.work j ≡ at l.initial.work j)
 
 abbrev pub decreases-loop-sizes : goal.decreases-loop-sizes
-decreases-loop-sizes l = rounds (machine_in l.sizes.states l.sizes.signs l.sizes.start (take l.sizes.states l.initial.work-1) l.nexts) - l.i
+decreases-loop-sizes l = rounds (machine_in l.sizes.states l.sizes.signs l.sizes.start (take l.sizes.states l.initial.work) l.nexts) - l.i
