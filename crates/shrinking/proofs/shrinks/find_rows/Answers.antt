@@ -24,7 +24,7 @@ found f =
     let a = (began f).args in
     let r = (split f).run_takes-tally in
     let s = f.start_in in
-    classes_found a.sizes.states a.sizes.signs a.sizes.start a.marks.now a.nexts.now (began f).requires.held a.work-1.now s.new.1.1.0 r.last.1.1.1.0 r.result.takes r.result.entries s.ensures r.ensures
+    classes_found a.sizes.states a.sizes.signs a.sizes.start a.marks.now a.nexts.now (began f).requires.held a.work.now s.new.1.1.0 r.last.1.1.1.0 r.result.takes r.result.entries s.ensures r.ensures
 
 wide : (f : goal.After-find_reached) → 8 * (began f).args.sizes.states ≤ length (split f).run-takes.new.1.1.1.0
 wide f = omega (arith, (split f).run_takes-tally.ensures.long, f.start_in.ensures.long, (began f).requires.room)
@@ -34,7 +34,7 @@ run_takes-tally-requires c =
     let b = c in
     let z = b.args.sizes in
     let s = c.start_in.ensures in
-    (b.requires.held, ((omega (arith, s.long, b.requires.room), omega arith), started_formed z.states z.signs z.start b.args.marks.now b.args.nexts.now b.requires.held b.args.work-1.now c.start_in.new.1.1.0 s))
+    (b.requires.held, ((omega (arith, s.long, b.requires.room), omega arith), started_formed z.states z.signs z.start b.args.marks.now b.args.nexts.now b.requires.held b.args.work.now c.start_in.new.1.1.0 s))
 
 pub flag_classes-requires : goal.flag_classes-requires
 flag_classes-requires c =
@@ -65,4 +65,4 @@ returns c =
     rows_found z.states z.signs z.start b.args.marks.now b.args.nexts.now b.pre.1.0
     r.last.1.1.1.0 f.clear.new.0 f.find_reached.new.1.1.0 (wide f) (found f) f.clear.ensures f.find_reached.ensures
     d.new.0 u.new.0 u.result d.ensures u.ensures
-    b.args.work-1.now s.new.1.1.0 r.result.takes r.result.entries s.ensures r.ensures
+    b.args.work.now s.new.1.1.0 r.result.takes r.result.entries s.ensures r.ensures

@@ -55,10 +55,10 @@ rowed f = f.find_rows-rows.new.1.1.1.0
 rows_here : (f : goal.After-find_rows-rows)
     → RowsFound
     (machine_in (sizes (known f)).states (sizes (known f)).signs (sizes (known f)).start (marks_in (began f).args.file.now (sizes (known f))) (nexts_in (began f).args.file.now (sizes (known f))))
-    (began f).args.work-1.now (rowed f) f.find_rows-rows.result.count f.find_rows-rows.result.takes
+    (began f).args.work.now (rowed f) f.find_rows-rows.result.count f.find_rows-rows.result.takes
 rows_here f =
     let z = sizes (known f) in
-    subst₂ (λ (marks nexts : List ℕ). RowsFound (machine_in z.states z.signs z.start marks nexts) (began f).args.work-1.now (rowed f) f.find_rows-rows.result.count f.find_rows-rows.result.takes)
+    subst₂ (λ (marks nexts : List ℕ). RowsFound (machine_in z.states z.signs z.start marks nexts) (began f).args.work.now (rowed f) f.find_rows-rows.result.count f.find_rows-rows.result.takes)
     (marks_here f) (nexts_here f) f.find_rows-rows.ensures
 
 wide : (f : goal.After-find_rows-rows) → 16 * (sizes (known f)).states ≤ length (began f).args.work.now
@@ -75,8 +75,8 @@ returns-in_default c =
     let b = c in
     let a = c.args in
     let e = b.in_default.is in
-    ap (λ (r : Refusal). left (refusal r) (a.work-1.now ∷ a.out-1.now ∷ [])) (c.refused_by.ensures ∙ ap refused_by e)
-    ∙ shrink_refused a.file.now a.work-1.now a.out-1.now (sym b.judge-judged.ensures ∙ ap judgedTold e)
+    ap (λ (r : Refusal). left (refusal r) (a.work.now ∷ a.out.now ∷ [])) (c.refused_by.ensures ∙ ap refused_by e)
+    ∙ shrink_refused a.file.now a.work.now a.out.now (sym b.judge-judged.ensures ∙ ap judgedTold e)
 
 pub overflow_mul-room : goal.overflow_mul-room
 overflow_mul-room c = omega (arith, (accepted c).range.states_most)
@@ -115,8 +115,8 @@ returns-then-out-length c =
     let z = sizes (known f) in
     let a = (began f).args in
     let r = f.find_rows-rows.result in
-    ap (λ (w : List ℕ). left (refuses 12 (file_length r.count z.signs)) (w ∷ a.out-1.now ∷ [])) c.clear.ensures
-    ∙ shrink_short a.file.now z (accepted (known f)) a.work-1.now a.out-1.now (wide f) (rowed f) r.count r.takes (rows_here f) c.if-out-length.true
+    ap (λ (w : List ℕ). left (refuses 12 (file_length r.count z.signs)) (w ∷ a.out.now ∷ [])) c.clear.ensures
+    ∙ shrink_short a.file.now z (accepted (known f)) a.work.now a.out.now (wide f) (rowed f) r.count r.takes (rows_here f) c.if-out-length.true
 
 pub write_file-requires : goal.write_file-requires
 write_file-requires c =
@@ -131,7 +131,7 @@ returns c =
     let r = f.find_rows-rows.result in
     let file =
     c.write_file.ensures
-    ∙ ap₂ (λ (marks nexts : List ℕ). written (encode (row_machine (machine_in z.states z.signs z.start marks nexts) r.count (rowed f))) a.out-1.now) (marks_here f) (nexts_here f)
+    ∙ ap₂ (λ (marks nexts : List ℕ). written (encode (row_machine (machine_in z.states z.signs z.start marks nexts) r.count (rowed f))) a.out.now) (marks_here f) (nexts_here f)
     in
     ap₂ (λ (w o : List ℕ). left (gives (r.count ∷ file_length r.count z.signs ∷ [])) (w ∷ o ∷ [])) c.clear-2.ensures file
-    ∙ shrink_made a.file.now z (accepted (known f)) a.work-1.now a.out-1.now (wide f) (rowed f) r.count r.takes (rows_here f) (omega (arith, c.if-out-length.false))
+    ∙ shrink_made a.file.now z (accepted (known f)) a.work.now a.out.now (wide f) (rowed f) r.count r.takes (rows_here f) (omega (arith, c.if-out-length.false))

@@ -13,7 +13,7 @@ use Rattle.shrinking.proofs.writing.write_file.Goals as goal
 
 -- what is written keeps the length
 long : (c : goal.After-write_sizes) → length c.write-sizes.new.1.1.1.0 ≡ length c.before.before.before.before.before.before.before.args.out.now
-long c = ap length c.write_sizes.ensures ∙ length-sets c.args.out-1.now 0 (sizes_bytes c.args.rows c.args.sizes.signs c.row_of.result)
+long c = ap length c.write_sizes.ensures ∙ length-sets c.args.out.now 0 (sizes_bytes c.args.rows c.args.sizes.signs c.row_of.result)
 
 long_2 : (c : goal.After-write_marks) → length c.write-marks.new.1.1.1.1.0 ≡ length c.before.before.before.before.before.before.before.before.before.before.before.args.out.now
 long_2 c =
@@ -47,5 +47,5 @@ returns c =
     ∙ ap (λ (s : List ℕ). sets s (12 + a.rows) (field_of 3 (rows_bytes z.states z.signs a.nexts.now a.work.now a.rows)))
     (c.write_marks.ensures
     ∙ ap (λ (s : List ℕ). sets s 12 (marks_bytes z.states a.marks.now a.work.now a.rows))
-    (c.write_sizes.ensures ∙ ap (λ (r : ℕ). sets a.out-1.now 0 (sizes_bytes a.rows z.signs r)) c.row_of.ensures.value))
-    ∙ file_stored z.states z.signs z.start a.marks.now a.nexts.now a.work.now a.rows b.requires.held b.requires.writable a.out-1.now b.requires.room
+    (c.write_sizes.ensures ∙ ap (λ (r : ℕ). sets a.out.now 0 (sizes_bytes a.rows z.signs r)) c.row_of.ensures.value))
+    ∙ file_stored z.states z.signs z.start a.marks.now a.nexts.now a.work.now a.rows b.requires.held b.requires.writable a.out.now b.requires.room

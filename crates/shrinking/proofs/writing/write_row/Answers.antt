@@ -97,12 +97,12 @@ loop-a-preserved c =
     c.row_of-row.ensures.value
     ∙ ap (row_of z.states a.work.now) (c.next_of.ensures.value ∙ ap (λ (s : ℕ). pair_at a.nexts.now (2 * (s * z.signs + l.a))) c.number_at-state.ensures.value)
     in
-    let e : c.put_pair.new.0 ≡ sets a.out-1.now p (row_bytes z.states z.signs a.nexts.now a.work.now a.i (l.a + 1)) =
-    c.put_pair.ensures ∙ row_more z.states a.work.now a.out-1.now z.signs a.nexts.now a.i p l.a l.out-1 l.place _ l.invariant.3 l.invariant.1 v
+    let e : c.put_pair.new.0 ≡ sets a.out.now p (row_bytes z.states z.signs a.nexts.now a.work.now a.i (l.a + 1)) =
+    c.put_pair.ensures ∙ row_more z.states a.work.now a.out.now z.signs a.nexts.now a.i p l.a l.out l.place _ l.invariant.3 l.invariant.1 v
     in (
       omega (arith, c.loop-a-test.true),
       omega (arith, l.invariant.1),
-      ap length e ∙ length-sets a.out-1.now p (row_bytes z.states z.signs a.nexts.now a.work.now a.i (l.a + 1)),
+      ap length e ∙ length-sets a.out.now p (row_bytes z.states z.signs a.nexts.now a.work.now a.i (l.a + 1)),
       e,
     )
 
@@ -112,4 +112,4 @@ returns c =
     let a = c.args in
     let z = a.sizes in
     let e : l.a ≡ z.signs = omega arith in
-    l.invariant.3 ∙ ap (λ (b : ℕ). sets a.out-1.now (12 + a.rows + 3 + 2 * (a.i * z.signs)) (row_bytes z.states z.signs a.nexts.now a.work.now a.i b)) e
+    l.invariant.3 ∙ ap (λ (b : ℕ). sets a.out.now (12 + a.rows + 3 + 2 * (a.i * z.signs)) (row_bytes z.states z.signs a.nexts.now a.work.now a.i b)) e

@@ -62,7 +62,7 @@ loop-i-preserved c =
     let l = c.loop-i in
     let o = c.put_pair.new.0 in
     let e : c.write_row.new.1.1.1.1.1.0 ≡ sets o (12 + a.rows + 3) (rows_bytes z.states z.signs a.nexts.now a.work.now (l.i + 1)) =
-    c.write_row.ensures ∙ rows_more z.states a.work.now o z.signs a.nexts.now (12 + a.rows + 3) l.i l.out-1 l.invariant.2
+    c.write_row.ensures ∙ rows_more z.states a.work.now o z.signs a.nexts.now (12 + a.rows + 3) l.i l.out l.invariant.2
     in (
       omega (arith, c.loop-i-test.true),
       ap length e ∙ length-sets o (12 + a.rows + 3) (rows_bytes z.states z.signs a.nexts.now a.work.now (l.i + 1)),
@@ -77,5 +77,5 @@ returns c =
     let o = c.put_pair.new.0 in
     let e : l.i ≡ a.rows = omega arith in
     let body = rows_bytes z.states z.signs a.nexts.now a.work.now a.rows in
-    field_stored a.out-1.now body (12 + a.rows) _ o l.out-1 (rows-length z.states a.work.now a.out-1.now z.signs a.nexts.now a.rows) c.put_pair.ensures
+    field_stored a.out.now body (12 + a.rows) _ o l.out (rows-length z.states a.work.now a.out.now z.signs a.nexts.now a.rows) c.put_pair.ensures
     (l.invariant.2 ∙ ap (λ (i : ℕ). sets o (12 + a.rows + 3) (rows_bytes z.states z.signs a.nexts.now a.work.now i)) e)
