@@ -25,7 +25,7 @@ flag_classes-requires c =
     let a = c.args in
     let z = a.sizes in
     let w₂ = c.run_takes-tally.new.work in
-    let w₃ = c.clear.new.numbers in
+    let w₃ = c.clear.new.work in
     let w₄ = c.find_reached.new.work in
     let e = c.clear.ensures in
     let h = c.requires.held in
@@ -51,6 +51,6 @@ returns c =
     let found = classes_found z.states z.signs z.start a.marks.now a.nexts.now h a.work.now c.start_in.new.work w₂ t.takes t.entries s r in
     let wide : 8 * z.states ≤ length w₂ = omega (arith, r.long, s.long, c.requires.room) in
     rows_found z.states z.signs z.start a.marks.now a.nexts.now h
-    w₂ c.clear.new.numbers c.find_reached.new.work wide found c.clear.ensures c.find_reached.ensures
+    w₂ c.clear.new.work c.find_reached.new.work wide found c.clear.ensures c.find_reached.ensures
     c.flag_classes.new.work u.new.work u.result c.flag_classes.ensures u.ensures
     a.work.now c.start_in.new.work t.takes t.entries s r
