@@ -1,76 +1,88 @@
 // Reads a table file from standard input and prints the report on it: its sizes, what was found, and the class of each state; or the refusal.
 #![tactic(auto)]
 
+ghost use Rattle.std.specs.Prelude.{◌≡◌, IfOk, IfSome, take};
+
 use lending::number_at;
 use reporting::{Numbers, Summary};
+use std::alloc::Global;
+use std::io;
+use std::io::Read;
 use table::answer::{Refusal, number_of};
 
-fn print_number(x: usize) {
-    io::write_all(1, &[b' ']);
-    io::print_decimal(1, x as u64);
+fn print_number(out: &impl Print, x: usize) -> io::Result<()> {
+    print!(out; " {x}")
 }
 
-fn end_line() {
-    io::write_all(1, &[b'\n']);
+fn end_line(out: &impl Print) -> io::Result<()> {
+    println!(out)
 }
 
-fn print_sizes(found: Numbers) {
-    io::write_all(1, &[b's', b'i', b'z', b'e', b's']);
-    print_number(found.sizes.states);
-    print_number(found.sizes.signs);
-    print_number(found.sizes.start);
-    end_line();
+fn print_sizes(out: &impl Print, found: Numbers) -> io::Result<()> {
+    print!(out; "sizes")?;
+    print_number(out, found.sizes.states)?;
+    print_number(out, found.sizes.signs)?;
+    print_number(out, found.sizes.start)?;
+    end_line(out)
 }
 
-fn print_found(found: Numbers) {
-    io::write_all(1, &[b'f', b'o', b'u', b'n', b'd']);
-    print_number(found.classes);
-    print_number(found.rounds);
-    print_number(found.takes);
-    print_number(found.entries);
-    print_number(found.rows);
-    end_line();
+fn print_found(out: &impl Print, found: Numbers) -> io::Result<()> {
+    print!(out; "found")?;
+    print_number(out, found.classes)?;
+    print_number(out, found.rounds)?;
+    print_number(out, found.takes)?;
+    print_number(out, found.entries)?;
+    print_number(out, found.rows)?;
+    end_line(out)
 }
 
 // A line for each of the first n states, or for as many as there are names.
-fn print_classes(names: &[u16], n: usize) {
+fn print_classes(out: &impl Print, names: &[u16], n: usize) -> io::Result<()> {
     let mut q = 0;
     while q < n && q < names.len() {
-        io::print_decimal(1, q as u64);
-        print_number(number_at(names, q));
-        end_line();
+        print!(out; "{q}")?;
+        print_number(out, number_at(names, q))?;
+        end_line(out)?;
         q += 1;
     }
+    Ok(())
 }
 
-fn print_refused(refusal: Refusal) {
-    io::write_all(1, &[b'r', b'e', b'f', b'u', b's', b'e', b'd']);
+fn print_refused(out: &impl Print, refusal: Refusal) -> io::Result<()> {
+    print!(out; "refused")?;
     let kind = refusal.kind;
-    print_number(number_of(kind));
-    print_number(refusal.place);
-    end_line();
+    print_number(out, number_of(kind))?;
+    print_number(out, refusal.place)?;
+    end_line(out)
 }
 
-fn print_report(file: &[u8]) {
+fn print_report(out: &impl Print, file: &[u8]) -> io::Result<()> {
     let mut work = [0u16; 16384];
     let mut classes = [0u16; 1024];
     let mut pending = [0u16; 1024];
-    let mut out = [0u8; 65015];
-    let answer = reporting::report(file, &mut work, &mut classes, &mut pending, &mut out);
+    let mut shrunk = [0u8; 65015];
+    let answer = reporting::report(file, &mut work, &mut classes, &mut pending, &mut shrunk);
     match answer {
         Summary::Found(found) => {
-            print_sizes(found);
-            print_found(found);
-            print_classes(&classes, found.sizes.states);
+            print_sizes(out, found)?;
+            print_found(out, found)?;
+            print_classes(out, &classes, found.sizes.states)
         }
-        Summary::Refused(refusal) => {
-            print_refused(refusal);
-        }
+        Summary::Refused(refusal) => print_refused(out, refusal),
     }
 }
 
-fn main() {
-    let mut buffer = io::large_buffer();
-    let length = io::read_full(0, &mut buffer);
-    print_report(&buffer[..length]);
+// The first 65,536 bytes: an accepted file has at most 65,015, and no refusal looks behind 65,536.
+fn read_file<R: Read + Drop>(alloc: Global, input: R) -> io::Result<Vec<u8>>
+    ensures { IfOk result (λ file. IfSome (R.remaining input) (λ bytes. file.items ≡ take 65536 bytes)) }
+{
+    let mut file = Vec::new(alloc);
+    let mut input = input.take(65536);
+    input.read_to_end(&mut file)?;
+    Ok(file)
+}
+
+fn main(rt: HostRuntime) -> io::Result<()> {
+    let file = read_file(rt.alloc(), rt.stdin())?;
+    print_report(&rt, &file)
 }

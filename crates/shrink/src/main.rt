@@ -2,11 +2,14 @@
 // standard error, `refused NUMBER PLACE`, and nothing on standard output.
 #![tactic(auto)]
 
-ghost use Rattle.std.specs.Prelude.{◌≡◌, length};
+ghost use Rattle.std.specs.Prelude.{◌≡◌, IfOk, IfSome, OnOk, length, take};
+ghost use Rattle.std.specs.Io.KnownBytes.{Appends};
 ghost use Rattle.shrinking.specs.Shrunk.{shrunk};
 
-use libc::{STDERR_FILENO, STDIN_FILENO, STDOUT_FILENO};
 use shrinking::shrinks::Shrinking;
+use std::alloc::Global;
+use std::io;
+use std::io::{Read, Write};
 use table::answer::{Refusal, number_of};
 
 // 16,384 numbers: 16 × n at the most states that a file can have.
@@ -16,40 +19,50 @@ fn work_numbers() -> [u16; 16384]
     [0; 16384]
 }
 
-// Writes the bytes of the shrunk file to standard output. The file itself is lent for the contract alone.
-fn write_shrunk(file: &[u8], bytes: &[u8])
-    requires { bytes.now ≡ shrunk file.now }
+// 65,536 bytes: room for every shrunk file.
+fn out_bytes() -> [u8; 65536]
+    ensures { 65536 ≡ length result }
 {
-    io::write_all(STDOUT_FILENO, bytes);
+    [0; 65536]
 }
 
-fn print_refusal(refusal: Refusal) {
+// Writes the bytes of the shrunk file to standard output. The file itself is lent for the contract alone.
+fn write_shrunk<W: Write>(file: &[u8], bytes: &[u8], output: &mut W) -> io::Result<()>
+    requires { bytes.now ≡ shrunk file.now }
+    ensures { OnOk result (Appends (W.contents output.old) (W.contents output.new) (shrunk file.now)) }
+{
+    output.write_all(bytes)
+}
+
+fn print_refusal(refusal: Refusal, errors: &impl Eprint) -> io::Result<()> {
     let kind = refusal.kind;
-    io::write_all(STDERR_FILENO, b"refused ");
-    io::print_decimal(STDERR_FILENO, number_of(kind) as u64);
-    io::write_all(STDERR_FILENO, b" ");
-    io::print_decimal(STDERR_FILENO, refusal.place as u64);
-    io::write_all(STDERR_FILENO, b"\n");
+    let number = number_of(kind);
+    let place = refusal.place;
+    eprintln!(errors; "refused {number} {place}")
 }
 
 // Writes the shrunk file, or the line of the refusal.
-fn shrink_file(file: &[u8]) {
+fn shrink_file<W: Write>(file: &[u8], output: &mut W, errors: &impl Eprint) -> io::Result<()> {
     let mut work = work_numbers();
-    let mut out = io::large_buffer();
+    let mut out = out_bytes();
     let answer = shrinking::shrinks::shrink(file, &mut work, &mut out);
     match answer {
-        Shrinking::Made(size) => {
-            write_shrunk(file, &out[..size.length]);
-        }
-        Shrinking::Refused(refusal) => {
-            print_refusal(refusal);
-        }
+        Shrinking::Made(size) => write_shrunk(file, &out[..size.length], output),
+        Shrinking::Refused(refusal) => print_refusal(refusal, errors),
     }
 }
 
-fn main() {
-    // An accepted file has at most 65,015 bytes, and no refusal looks behind the 65,536 that the buffer has.
-    let mut file = io::large_buffer();
-    let read = io::read_full(STDIN_FILENO, &mut file);
-    shrink_file(&file[..read]);
+// The first 65,536 bytes: an accepted file has at most 65,015, and no refusal looks behind 65,536.
+fn read_file<R: Read + Drop>(alloc: Global, input: R) -> io::Result<Vec<u8>>
+    ensures { IfOk result (λ file. IfSome (R.remaining input) (λ bytes. file.items ≡ take 65536 bytes)) }
+{
+    let mut file = Vec::new(alloc);
+    let mut input = input.take(65536);
+    input.read_to_end(&mut file)?;
+    Ok(file)
+}
+
+fn main(rt: HostRuntime) -> io::Result<()> {
+    let file = read_file(rt.alloc(), rt.stdin())?;
+    shrink_file(&file, &mut rt.stdout(), &rt)
 }

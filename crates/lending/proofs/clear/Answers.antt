@@ -1,12 +1,11 @@
 -- `lending::clear` meets its contract. The loop's invariant: the first i numbers are cleared, and the rest is as it was.
-use Prim.Native.Nat.{ℕ, ◌≤◌, ◌-◌}
+use Prim.Native.Nat.{ℕ}
 use mathlib.Core.Path.{◌≡◌, refl, ap, ◌∙◌}
 use mathlib.Core.List.{List}
 use borrow.Author.Fill.{fill_none, fill_more}
-use lib.ListN.{length, set, length-set}
+use lib.ListN.{set, length-set}
 use Rattle.lending.specs.Memory.{cleared}
 use native.Mathlib.Omega.{arith}
-use borrow.Author.Rules.{rules}
 use Rattle.lending.proofs.clear.Goals as goal
 
 pub loop-i-init : goal.loop-i-init

@@ -1,11 +1,8 @@
 -- `lending::clear` meets its contract. The loop's invariant: the first i numbers are cleared, and the rest is as it was.
-use Prim.Native.Nat.{ℕ, ◌≤◌, ◌-◌}
-use mathlib.Core.Path.{◌≡◌, refl, ap, ◌∙◌}
-use mathlib.Core.List.{List}
-use borrow.Author.Fill.{fill_none, fill_more}
-use lib.ListN.{length, set, length-set}
+use Prim.Native.Nat.{◌≤◌, ◌-◌}
+use mathlib.Core.Path.{◌≡◌}
+use lib.ListN.{length}
 use Rattle.lending.specs.Memory.{cleared}
-use native.Mathlib.Omega.{arith}
 use Rattle.lending.proofs.clear.Given as goal
 
 abbrev pub invariant-loop-i : goal.invariant-loop-i

@@ -1,7 +1,6 @@
 -- `lending::counted` meets its contract.
 use Rattle.counting.specs.Least.{pick}
 use native.Mathlib.Omega.{arith}
-use borrow.Author.Rules.{rules}
 use Rattle.lending.proofs.counted.Goals as goal
 
 pub returns-then-more : goal.returns-then-more

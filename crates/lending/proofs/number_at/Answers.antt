@@ -1,7 +1,6 @@
 -- `lending::number_at` meets its contract: the place is within the slice, and a number of two bytes is below 65,536.
 use mathlib.Core.Path.{refl}
 use native.Mathlib.Omega.{arith}
-use borrow.Author.Rules.{rules}
 use Rattle.lending.proofs.number_at.Goals as goal
 
 pub overflow_cast-result : goal.overflow_cast-result

@@ -1,7 +1,6 @@
 -- `lending::one_of` meets its contract.
 use mathlib.Core.Path.{refl}
 use Rattle.counting.specs.Least.{pick}
-use borrow.Author.Rules.{rules}
 use Rattle.lending.proofs.one_of.Goals as goal
 
 pub returns-then-test : goal.returns-then-test

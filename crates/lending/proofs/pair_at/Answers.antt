@@ -3,7 +3,6 @@ use mathlib.Core.Path.{refl}
 use Prim.Native.Nat.{◌+◌}
 use native.Mathlib.Omega.{arith}
 use Rattle.lending.specs.Pairs.{pair_at}
-use borrow.Author.Rules.{rules}
 use Rattle.lending.proofs.pair_at.Goals as goal
 
 pub overflow_cast-result : goal.overflow_cast-result

@@ -1,7 +1,6 @@
 -- `running::words::strange_by` meets its contract: each arm is a case of `strange_by`.
 use mathlib.Core.Path.{ap, sym}
 use Rattle.running.specs.Running.{strange_by}
-use borrow.Author.Rules.{rules}
 use Rattle.running.proofs.words.strange_by.Goals as goal
 
 pub returns-in-Strange : goal.returns-in-Strange

@@ -1,13 +1,11 @@
 -- `running::words::walk_word` meets its contract. The loop's invariant: the signs passed are the table's, and q is where they lead.
-use Prim.Native.Nat.{ℕ, ◌+◌, ◌*◌, ◌≤◌, ◌<◌, ◌-◌}
+use Prim.Native.Nat.{ℕ, ◌+◌, ◌*◌}
 use mathlib.Core.Path.{◌≡◌, refl, sym, ap, ◌∙◌}
-use mathlib.Core.Bool.{false}
 use mathlib.Core.List.{[]}
 use native.Mathlib.Omega.{arith}
 use borrow.Author.Count.{below_none, below_more}
 use borrow.Author.Tests.{le-leb, lt-leb}
-use lib.Dec.{leb}
-use lib.ListN.{length, take}
+use lib.ListN.{length}
 use Rattle.counting.specs.Lists.{at}
 use Rattle.counting.proofs.Leasts.{least_first, least_unique}
 use Rattle.automaton.specs.Words.{steps}
@@ -17,7 +15,6 @@ use Rattle.table.proofs.Readers.{next_within}
 use Rattle.running.specs.declared.words.Walk.TheVariants.{Stands}
 use Rattle.running.specs.Running.{bad_sign}
 use Rattle.running.proofs.Walking.{steps_more, steps_whole, walk_strange, walk_stands}
-use borrow.Author.Rules.{rules}
 use Rattle.running.proofs.words.walk_word.Goals as goal
 
 pub loop-i-init : goal.loop-i-init

@@ -2,7 +2,6 @@
 use Prim.Native.Nat.{ℕ, ◌≤◌}
 use mathlib.Core.Path.{◌≡◌, refl, ◌∙◌}
 use mathlib.Core.List.{[]}
-use borrow.Author.Tests.{not-true, not-false}
 use lib.Dec.{eqb}
 use lib.ListN.{length}
 use Rattle.counting.specs.Lists.{at}
@@ -17,9 +16,9 @@ use Rattle.shrinking.proofs.reaching.find_reached.Given as goal
 
 abbrev pub invariant-loop-sizes : goal.invariant-loop-sizes
 invariant-loop-sizes l =
-    Sound (machine_in l.sizes.states l.sizes.signs l.sizes.start [] l.nexts) l.work-1
-    × (length l.work-1 ≡ length l.initial.work-1)
-    × ((i : ℕ) → l.sizes.states ≤ i → at l.work-1 i ≡ at l.initial.work-1 i)
+    Sound (machine_in l.sizes.states l.sizes.signs l.sizes.start [] l.nexts) l.work
+    × (length l.work ≡ length l.initial.work)
+    × ((i : ℕ) → l.sizes.states ≤ i → at l.work i ≡ at l.initial.work i)
 
 abbrev pub decreases-loop-sizes : goal.decreases-loop-sizes
-decreases-loop-sizes l = count l.sizes.states (λ x. eqb (at l.work-1 x) 0)
+decreases-loop-sizes l = count l.sizes.states (λ x. eqb (at l.work x) 0)

@@ -15,7 +15,7 @@ pub spread_marked-more-requires : goal.spread_marked-more-requires
 spread_marked-more-requires c =
     let l = c.loop-q in
     let b = c in
-    (b.requires.held, (omega (arith, l.invariant.1.long, b.requires.room), (c.loop-q-test.true, l.invariant.1.sound.small)))
+    record { held = b.requires.held; room = omega (arith, l.invariant.1.long, b.requires.room); state = c.loop-q-test.true; small = l.invariant.1.sound.small }
 
 pub overflow_add-q : goal.overflow_add-q
 overflow_add-q c = omega (arith, c.loop-q-test.true, c.requires.held.range.states_most)
@@ -29,11 +29,11 @@ loop-q-preserved c =
     let b = c in
     let t = c.loop-q-test.true in (
       omega (arith, t),
-      sweep_more _ (held_lawful [] b.requires.held) l.q t b.args.work-1.now l.work-1 _ l.new _ _ b.requires.sound l.invariant.1 c.spread_marked-more.ensures c.either-new.ensures,
+      sweep_more _ (held_lawful [] b.requires.held) l.q t b.args.work.now l.work _ l.new _ _ b.requires.sound l.invariant.1 c.spread_marked-more.ensures c.either-new.ensures,
     )
 
 pub returns : goal.returns
 returns c =
     let l = c.loop-q in
     let b = c in
-    sweep_done _ (held_lawful [] b.requires.held) l.q b.args.work-1.now l.work-1 l.new c.loop-q-test.false l.invariant.1
+    sweep_done _ (held_lawful [] b.requires.held) l.q b.args.work.now l.work l.new c.loop-q-test.false l.invariant.1

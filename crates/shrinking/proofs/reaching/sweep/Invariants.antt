@@ -9,7 +9,7 @@ use Rattle.shrinking.proofs.reaching.sweep.Given as goal
 
 abbrev pub invariant-loop-q : goal.invariant-loop-q
 invariant-loop-q l =
-    (l.q ≤ l.sizes.states) × Sweeping (machine_in l.sizes.states l.sizes.signs l.sizes.start [] l.nexts) l.q l.initial.work-1 l.work-1 l.new
+    (l.q ≤ l.sizes.states) × Sweeping (machine_in l.sizes.states l.sizes.signs l.sizes.start [] l.nexts) l.q l.initial.work l.work l.new
 
 abbrev pub decreases-loop-q : goal.decreases-loop-q
 decreases-loop-q l = l.sizes.states - l.q

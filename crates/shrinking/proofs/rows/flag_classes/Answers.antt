@@ -28,11 +28,11 @@ loop-q-preserved c =
     let l = c.loop-q in
     let b = c in
     let t = c.loop-q-test.true in
-    (omega (arith, t), flags_more b.args.n l.q t b.args.work-1.now l.work-1 b.requires.room.0 (b.requires.classed l.q t) l.invariant.1 _ c.flag_class.ensures)
+    (omega (arith, t), flags_more b.args.n l.q t b.args.work.now l.work b.requires.room.0 (b.requires.classed l.q t) l.invariant.1 _ c.flag_class.ensures)
 
 pub returns : goal.returns
 returns c =
     let l = c.loop-q in
     let a = c.args in
     let e : l.q ≡ a.n = omega (arith, c.loop-q-test.false) in
-    subst (λ (x : ℕ). Flagged a.n x a.work-1.now l.work-1) e l.invariant.1
+    subst (λ (x : ℕ). Flagged a.n x a.work.now l.work) e l.invariant.1

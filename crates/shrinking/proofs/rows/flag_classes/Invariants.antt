@@ -7,7 +7,7 @@ use native.Mathlib.Omega.{arith}
 use Rattle.shrinking.proofs.rows.flag_classes.Given as goal
 
 abbrev pub invariant-loop-q : goal.invariant-loop-q
-invariant-loop-q l = (l.q ≤ l.n) × Flagged l.n l.q l.initial.work-1 l.work-1
+invariant-loop-q l = (l.q ≤ l.n) × Flagged l.n l.q l.initial.work l.work
 
 abbrev pub decreases-loop-q : goal.decreases-loop-q
 decreases-loop-q l = l.n - l.q

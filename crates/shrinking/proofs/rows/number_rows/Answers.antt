@@ -14,10 +14,10 @@ pub number_class-rows-requires : goal.number_class-rows-requires
 number_class-rows-requires c =
     let l = c.loop-c in
     let b = c in
-    record { room = (omega (arith, b.requires.0, l.invariant.1.long), b.requires.1); within = (c.loop-c-test.true, rows_most b.args.n l.c l.rows b.args.work-1.now l.work-1 l.invariant.1) }
+    record { room = (omega (arith, b.requires.room.0, l.invariant.1.long), b.requires.room.1); within = (c.loop-c-test.true, rows_most b.args.n l.c l.rows b.args.work.now l.work l.invariant.1) }
 
 pub overflow_add-c : goal.overflow_add-c
-overflow_add-c c = omega (arith, c.loop-c-test.true, c.requires.1)
+overflow_add-c c = omega (arith, c.loop-c-test.true, c.requires.room.1)
 
 pub loop-c-smaller : goal.loop-c-smaller
 loop-c-smaller c = omega (arith, c.loop-c-test.true)
@@ -27,11 +27,11 @@ loop-c-preserved c =
     let l = c.loop-c in
     let b = c in
     let t = c.loop-c-test.true in
-    (omega (arith, t), numbers_more b.args.n l.c l.rows b.args.work-1.now l.work-1 l.invariant.1 t b.requires.0 _ _ c.number_class-rows.ensures)
+    (omega (arith, t), numbers_more b.args.n l.c l.rows b.args.work.now l.work l.invariant.1 t b.requires.room.0 _ _ c.number_class-rows.ensures)
 
 pub returns : goal.returns
 returns c =
     let l = c.loop-c in
     let a = c.args in
     let e : l.c ≡ a.n = omega (arith, c.loop-c-test.false) in
-    subst (λ (x : ℕ). Numbered a.n x a.work-1.now l.work-1 l.rows) e l.invariant.1
+    subst (λ (x : ℕ). Numbered a.n x a.work.now l.work l.rows) e l.invariant.1

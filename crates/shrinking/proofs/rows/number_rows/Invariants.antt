@@ -7,7 +7,7 @@ use native.Mathlib.Omega.{arith}
 use Rattle.shrinking.proofs.rows.number_rows.Given as goal
 
 abbrev pub invariant-loop-c : goal.invariant-loop-c
-invariant-loop-c l = (l.c ≤ l.n) × Numbered l.n l.c l.initial.work-1 l.work-1 l.rows
+invariant-loop-c l = (l.c ≤ l.n) × Numbered l.n l.c l.initial.work l.work l.rows
 
 abbrev pub decreases-loop-c : goal.decreases-loop-c
 decreases-loop-c l = l.n - l.c

@@ -10,59 +10,47 @@ use native.Mathlib.Omega.{arith}
 use borrow.Author.Rules.{rules}
 use Rattle.shrinking.proofs.shrinks.find_rows.Goals as goal
 
--- where the call began, and what the splitting left
-abbrev began : goal.After-find_reached → goal.Start
-began f = f
-
-abbrev split : goal.After-find_reached → goal.After-run_takes-tally
-split f = f
-
-found : (f : goal.After-find_reached)
-    → class_in (began f).args.sizes.states (split f).run_takes-tally.new.1.1.1.0
-    ≡ classes (machine_in (began f).args.sizes.states (began f).args.sizes.signs (began f).args.sizes.start (began f).args.marks.now (began f).args.nexts.now)
-found f =
-    let a = (began f).args in
-    let r = (split f).run_takes-tally in
-    let s = f.start_in in
-    classes_found a.sizes.states a.sizes.signs a.sizes.start a.marks.now a.nexts.now (began f).requires.held a.work-1.now s.new.1.1.0 r.last.1.1.1.0 r.result.takes r.result.entries s.ensures r.ensures
-
-wide : (f : goal.After-find_reached) → 8 * (began f).args.sizes.states ≤ length (split f).run-takes.new.1.1.1.0
-wide f = omega (arith, (split f).run_takes-tally.ensures.long, f.start_in.ensures.long, (began f).requires.room)
-
 pub run_takes-tally-requires : goal.run_takes-tally-requires
 run_takes-tally-requires c =
-    let b = c in
-    let z = b.args.sizes in
+    let z = c.args.sizes in
     let s = c.start_in.ensures in
-    (b.requires.held, ((omega (arith, s.long, b.requires.room), omega arith), started_formed z.states z.signs z.start b.args.marks.now b.args.nexts.now b.requires.held b.args.work-1.now c.start_in.new.1.1.0 s))
+    record {
+      held = c.requires.held;
+      room = (omega (arith, s.long, c.requires.room), omega arith);
+      formed = started_formed z.states z.signs z.start c.args.marks.now c.args.nexts.now c.requires.held c.args.work.now c.start_in.new.work s;
+    }
 
 pub flag_classes-requires : goal.flag_classes-requires
 flag_classes-requires c =
-    let f = c in
-    let b = began f in
-    let z = b.args.sizes in
-    let w₂ = (split f).run_takes-tally.new.1.1.1.0 in
-    let w₃ = f.clear.new.0 in
-    let w₄ = f.find_reached.new.1.1.0 in
-    let e = f.clear.ensures in
-    let h = b.pre.1.0 in (
-      (omega (arith, wide f, marked_long z.states z.signs z.start b.args.marks.now b.args.nexts.now h w₂ w₃ w₄ (wide f) (found f) e f.find_reached.ensures), h.range.states_most),
-      (
-        marked_classed z.states z.signs z.start b.args.marks.now b.args.nexts.now h w₂ w₃ w₄ (wide f) (found f) e f.find_reached.ensures,
-        unflagged z.states z.signs z.start b.args.marks.now b.args.nexts.now h w₂ w₃ w₄ (wide f) (found f) e f.find_reached.ensures,
-      ),
-    )
+    let a = c.args in
+    let z = a.sizes in
+    let w₂ = c.run_takes-tally.new.work in
+    let w₃ = c.clear.new.work in
+    let w₄ = c.find_reached.new.work in
+    let e = c.clear.ensures in
+    let h = c.requires.held in
+    let t = c.run_takes-tally.result in
+    let found = classes_found z.states z.signs z.start a.marks.now a.nexts.now h a.work.now c.start_in.new.work w₂ t.takes t.entries c.start_in.ensures c.run_takes-tally.ensures in
+    let wide : 8 * z.states ≤ length w₂ = omega (arith, c.run_takes-tally.ensures.long, c.start_in.ensures.long, c.requires.room) in
+    record {
+      room = (omega (arith, wide, marked_long z.states z.signs z.start a.marks.now a.nexts.now h w₂ w₃ w₄ wide found e c.find_reached.ensures), h.range.states_most);
+      classed = marked_classed z.states z.signs z.start a.marks.now a.nexts.now h w₂ w₃ w₄ wide found e c.find_reached.ensures;
+      unflagged = unflagged z.states z.signs z.start a.marks.now a.nexts.now h w₂ w₃ w₄ wide found e c.find_reached.ensures;
+    }
 
 pub returns : goal.returns
 returns c =
-    let f = c in
-    let b = began f in
-    let z = b.args.sizes in
-    let s = f.start_in in
-    let r = (split f).run_takes-tally in
-    let d = c.flag_classes in
+    let a = c.args in
+    let z = a.sizes in
+    let w₂ = c.run_takes-tally.new.work in
+    let h = c.requires.held in
+    let t = c.run_takes-tally.result in
+    let s = c.start_in.ensures in
+    let r = c.run_takes-tally.ensures in
     let u = c.number_rows-count in
-    rows_found z.states z.signs z.start b.args.marks.now b.args.nexts.now b.pre.1.0
-    r.last.1.1.1.0 f.clear.new.0 f.find_reached.new.1.1.0 (wide f) (found f) f.clear.ensures f.find_reached.ensures
-    d.new.0 u.new.0 u.result d.ensures u.ensures
-    b.args.work-1.now s.new.1.1.0 r.result.takes r.result.entries s.ensures r.ensures
+    let found = classes_found z.states z.signs z.start a.marks.now a.nexts.now h a.work.now c.start_in.new.work w₂ t.takes t.entries s r in
+    let wide : 8 * z.states ≤ length w₂ = omega (arith, r.long, s.long, c.requires.room) in
+    rows_found z.states z.signs z.start a.marks.now a.nexts.now h
+    w₂ c.clear.new.work c.find_reached.new.work wide found c.clear.ensures c.find_reached.ensures
+    c.flag_classes.new.work u.new.work u.result c.flag_classes.ensures u.ensures
+    a.work.now c.start_in.new.work t.takes t.entries s r

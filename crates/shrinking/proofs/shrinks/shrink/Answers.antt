@@ -21,117 +21,107 @@ use native.Mathlib.Omega.{arith}
 use borrow.Author.Rules.{rules}
 use Rattle.shrinking.proofs.shrinks.shrink.Goals as goal
 
-abbrev sizes : goal.In-Accepted → Sizes
-sizes k = k.in-Accepted.sizes
-
-accepted : (k : goal.In-Accepted) → Good k.before.before.before.before.before.before.before.args.file.now (sizes k)
-accepted k = good k.in-Accepted.is k.judge-judged.ensures
-
 -- the bodies handed on are those of the file
-marks_here : (g : goal.After-field_of-nexts) → g.before.field_of.result.now ≡ marks_in g.before.before.before.before.before.before.before.before.before.before.args.file.now (sizes g.before.before.before)
-marks_here g = marks_handed (sizes g) g.field_of-marks.ensures
+held_here : (file nexts : List ℕ) (z : Sizes) → Good file z → nexts ≡ nexts_in file z → Held z.states z.signs z.start nexts
+held_here file nexts z g e = subst (Held z.states z.signs z.start) (sym e) (held file z g)
 
-nexts_here : (g : goal.After-field_of-nexts) → g.field-of2.result.now ≡ nexts_in g.before.before.before.before.before.before.before.before.before.before.args.file.now (sizes g.before.before.before)
-nexts_here g = nexts_handed (sizes g) g.field_of-nexts.ensures
+long_here : (file marks : List ℕ) (z : Sizes) → Good file z → marks ≡ marks_in file z → length marks ≡ z.states
+long_here file marks z g e = ap length e ∙ marks_long file z g
 
-held_here : (g : goal.After-field_of-nexts) → Held (sizes g.before.before.before).states (sizes g.before.before.before).signs (sizes g.before.before.before).start g.field-of2.result.now
-held_here g =
-    let z = sizes g in
-    subst (Held z.states z.signs z.start) (sym (nexts_here g)) (held _ z (accepted g))
+small_here : (file marks : List ℕ) (z : Sizes) → Good file z → marks ≡ marks_in file z → (q : ℕ) → q < z.states → at marks q < 2
+small_here file marks z g e q l = subst (λ (ms : List ℕ). at ms q < 2) (sym e) (marks_small file z g q l)
 
-long_here : (g : goal.After-field_of-nexts) → length g.before.field_of.result.now ≡ (sizes g.before.before.before).states
-long_here g = ap length (marks_here g) ∙ marks_long _ (sizes g) (accepted g)
+-- the rows found are those of the machine of the file's bodies
+rows_here : (file marks nexts work after : List ℕ) (z : Sizes) (count takes : ℕ) → marks ≡ marks_in file z → nexts ≡ nexts_in file z
+    → RowsFound (machine_in z.states z.signs z.start marks nexts) work after count takes
+    → RowsFound (machine_in z.states z.signs z.start (marks_in file z) (nexts_in file z)) work after count takes
+rows_here file marks nexts work after z count takes e d f =
+    subst₂ (λ (ms ns : List ℕ). RowsFound (machine_in z.states z.signs z.start ms ns) work after count takes) e d f
 
-abbrev known : goal.After-find_rows-rows → goal.In-Accepted
-known f = f
-
-abbrev began : goal.After-find_rows-rows → goal.Start
-began f = f
-
--- the slice with the rows
-abbrev rowed : goal.After-find_rows-rows → List ℕ
-rowed f = f.find_rows-rows.new.1.1.1.0
-
-rows_here : (f : goal.After-find_rows-rows)
-    → RowsFound
-    (machine_in (sizes (known f)).states (sizes (known f)).signs (sizes (known f)).start (marks_in (began f).args.file.now (sizes (known f))) (nexts_in (began f).args.file.now (sizes (known f))))
-    (began f).args.work-1.now (rowed f) f.find_rows-rows.result.count f.find_rows-rows.result.takes
-rows_here f =
-    let z = sizes (known f) in
-    subst₂ (λ (marks nexts : List ℕ). RowsFound (machine_in z.states z.signs z.start marks nexts) (began f).args.work-1.now (rowed f) f.find_rows-rows.result.count f.find_rows-rows.result.takes)
-    (marks_here f) (nexts_here f) f.find_rows-rows.ensures
-
-wide : (f : goal.After-find_rows-rows) → 16 * (sizes (known f)).states ≤ length (began f).args.work.now
-wide f = omega (arith, f.if-work-room.false)
-
-nexts_most : (f : goal.After-find_rows-rows) → f.find-rows.result.count * (sizes (known f)).signs ≤ 32000
-nexts_most f =
-    let z = sizes (known f) in
-    let r : ℕ = f.find_rows-rows.result.count in
-    omega (arith, mul-le-mul_left z.signs (rows_here f).writable.most, mul_comm z.signs r, mul_comm z.signs z.states, (accepted (known f)).range.nexts_most)
+nexts_most : (file marks nexts work after : List ℕ) (z : Sizes) (count takes : ℕ) → Good file z
+    → RowsFound (machine_in z.states z.signs z.start marks nexts) work after count takes
+    → count * z.signs ≤ 32000
+nexts_most file marks nexts work after z count takes g f =
+    omega (arith, mul-le-mul_left z.signs f.writable.most, mul_comm z.signs count, mul_comm z.signs z.states, g.range.nexts_most)
 
 pub returns-in_default : goal.returns-in_default
 returns-in_default c =
-    let b = c in
     let a = c.args in
-    let e = b.in_default.is in
-    ap (λ (r : Refusal). left (refusal r) (a.work-1.now ∷ a.out-1.now ∷ [])) (c.refused_by.ensures ∙ ap refused_by e)
-    ∙ shrink_refused a.file.now a.work-1.now a.out-1.now (sym b.judge-judged.ensures ∙ ap judgedTold e)
+    let e = c.in_default.is in
+    ap (λ (r : Refusal). left (refusal r) (a.work.now ∷ a.out.now ∷ [])) (c.refused_by.ensures ∙ ap refused_by e)
+    ∙ shrink_refused a.file.now a.work.now a.out.now (sym c.judge-judged.ensures ∙ ap judgedTold e)
 
 pub overflow_mul-room : goal.overflow_mul-room
-overflow_mul-room c = omega (arith, (accepted c).range.states_most)
+overflow_mul-room c =
+    let g = good c.in-Accepted.is c.judge-judged.ensures in
+    omega (arith, g.range.states_most)
 
 pub returns-then-work-room : goal.returns-then-work-room
-returns-then-work-room c = shrink_narrow _ _ (accepted c) _ _ c.if-work-room.true
+returns-then-work-room c = shrink_narrow _ _ (good c.in-Accepted.is c.judge-judged.ensures) _ _ c.if-work-room.true
 
 pub field_of-marks-requires : goal.field_of-marks-requires
-field_of-marks-requires c = accepted c
+field_of-marks-requires c = good c.in-Accepted.is c.judge-judged.ensures
 
 pub field_of-nexts-requires : goal.field_of-nexts-requires
-field_of-nexts-requires c = accepted c
+field_of-nexts-requires c = good c.in-Accepted.is c.judge-judged.ensures
 
 pub find_rows-rows-requires : goal.find_rows-rows-requires
 find_rows-rows-requires c =
-    let g = c in (
-      (
-        long_here g,
-        λ q l. subst (λ (marks : List ℕ). at marks q < 2) (sym (marks_here g)) (marks_small _ (sizes g) (accepted g) q l),
-      ),
-      (held_here g, omega (arith, g.if-work-room.false)),
-    )
+    let z = c.in-Accepted.sizes in
+    let g = good c.in-Accepted.is c.judge-judged.ensures in
+    let e = marks_handed z c.field_of-marks.ensures in
+    record {
+      marked = (long_here _ _ z g e, small_here _ _ z g e);
+      held = held_here _ _ z g (nexts_handed z c.field_of-nexts.ensures);
+      room = omega (arith, c.if-work-room.false);
+    }
 
 pub overflow_mul-length : goal.overflow_mul-length
-overflow_mul-length c = omega (arith, nexts_most c)
+overflow_mul-length c = omega (arith, nexts_most _ _ _ _ _ _ _ _ (good c.in-Accepted.is c.judge-judged.ensures) c.find_rows-rows.ensures)
 
 pub overflow_mul-length-2 : goal.overflow_mul-length-2
-overflow_mul-length-2 c = omega (arith, nexts_most c)
+overflow_mul-length-2 c = omega (arith, nexts_most _ _ _ _ _ _ _ _ (good c.in-Accepted.is c.judge-judged.ensures) c.find_rows-rows.ensures)
 
 pub overflow_add-length-3 : goal.overflow_add-length-3
-overflow_add-length-3 c = let f = c in omega (arith, nexts_most f, (rows_here f).writable.most, (accepted (known f)).range.states_most)
+overflow_add-length-3 c =
+    let g = good c.in-Accepted.is c.judge-judged.ensures in
+    omega (arith, nexts_most _ _ _ _ _ _ _ _ g c.find_rows-rows.ensures, c.find_rows-rows.ensures.writable.most, g.range.states_most)
 
 pub returns-then-out-length : goal.returns-then-out-length
 returns-then-out-length c =
-    let f = c in
-    let z = sizes (known f) in
-    let a = (began f).args in
-    let r = f.find_rows-rows.result in
-    ap (λ (w : List ℕ). left (refuses 12 (file_length r.count z.signs)) (w ∷ a.out-1.now ∷ [])) c.clear.ensures
-    ∙ shrink_short a.file.now z (accepted (known f)) a.work-1.now a.out-1.now (wide f) (rowed f) r.count r.takes (rows_here f) c.if-out-length.true
+    let z = c.in-Accepted.sizes in
+    let a = c.args in
+    let r = c.find_rows-rows.result in
+    let w = c.find_rows-rows.new.work in
+    let g = good c.in-Accepted.is c.judge-judged.ensures in
+    let f = rows_here a.file.now _ _ a.work.now w z r.count r.takes (marks_handed z c.field_of-marks.ensures) (nexts_handed z c.field_of-nexts.ensures) c.find_rows-rows.ensures in
+    ap (λ (v : List ℕ). left (refuses 12 (file_length r.count z.signs)) (v ∷ a.out.now ∷ [])) c.clear.ensures
+    ∙ shrink_short a.file.now z g a.work.now a.out.now (omega (arith, c.if-work-room.false)) w r.count r.takes f c.if-out-length.true
 
 pub write_file-requires : goal.write_file-requires
 write_file-requires c =
-    let f = c in
-    (held_here f, (long_here f, (f.find_rows-rows.ensures.writable, omega (arith, c.if-out-length.false))))
+    let z = c.in-Accepted.sizes in
+    let g = good c.in-Accepted.is c.judge-judged.ensures in
+    record {
+      held = held_here _ _ z g (nexts_handed z c.field_of-nexts.ensures);
+      marks = long_here _ _ z g (marks_handed z c.field_of-marks.ensures);
+      writable = c.find_rows-rows.ensures.writable;
+      room = omega (arith, c.if-out-length.false);
+    }
 
 pub returns : goal.returns
 returns c =
-    let f = c in
-    let z = sizes (known f) in
-    let a = (began f).args in
-    let r = f.find_rows-rows.result in
+    let z = c.in-Accepted.sizes in
+    let a = c.args in
+    let r = c.find_rows-rows.result in
+    let w = c.find_rows-rows.new.work in
+    let g = good c.in-Accepted.is c.judge-judged.ensures in
+    let e = marks_handed z c.field_of-marks.ensures in
+    let d = nexts_handed z c.field_of-nexts.ensures in
+    let f = rows_here a.file.now _ _ a.work.now w z r.count r.takes e d c.find_rows-rows.ensures in
     let file =
     c.write_file.ensures
-    ∙ ap₂ (λ (marks nexts : List ℕ). written (encode (row_machine (machine_in z.states z.signs z.start marks nexts) r.count (rowed f))) a.out-1.now) (marks_here f) (nexts_here f)
+    ∙ ap₂ (λ (marks nexts : List ℕ). written (encode (row_machine (machine_in z.states z.signs z.start marks nexts) r.count w)) a.out.now) e d
     in
-    ap₂ (λ (w o : List ℕ). left (gives (r.count ∷ file_length r.count z.signs ∷ [])) (w ∷ o ∷ [])) c.clear-2.ensures file
-    ∙ shrink_made a.file.now z (accepted (known f)) a.work-1.now a.out-1.now (wide f) (rowed f) r.count r.takes (rows_here f) (omega (arith, c.if-out-length.false))
+    ap₂ (λ (v o : List ℕ). left (gives (r.count ∷ file_length r.count z.signs ∷ [])) (v ∷ o ∷ [])) c.clear-2.ensures file
+    ∙ shrink_made a.file.now z g a.work.now a.out.now (omega (arith, c.if-work-room.false)) w r.count r.takes f (omega (arith, c.if-out-length.false))

@@ -11,15 +11,6 @@ use native.Mathlib.Omega.{arith}
 use borrow.Author.Rules.{rules}
 use Rattle.shrinking.proofs.writing.write_file.Goals as goal
 
--- what is written keeps the length
-long : (c : goal.After-write_sizes) → length c.write-sizes.new.1.1.1.0 ≡ length c.before.before.before.before.before.before.before.args.out.now
-long c = ap length c.write_sizes.ensures ∙ length-sets c.args.out-1.now 0 (sizes_bytes c.args.rows c.args.sizes.signs c.row_of.result)
-
-long_2 : (c : goal.After-write_marks) → length c.write-marks.new.1.1.1.1.0 ≡ length c.before.before.before.before.before.before.before.before.before.before.before.args.out.now
-long_2 c =
-    let a = c.args in
-    ap length c.write_marks.ensures ∙ length-sets c.write_sizes.new.1.1.1.0 12 (marks_bytes a.sizes.states a.marks.now a.work.now a.rows) ∙ long c
-
 pub row_of-requires : goal.row_of-requires
 row_of-requires c =
     let b = c in
@@ -30,13 +21,17 @@ pub write_marks-requires : goal.write_marks-requires
 write_marks-requires c =
     let b = c in
     let w = b.requires.writable in
-    record { listed = (omega (arith, w.room, w.most), λ i l. rw b.requires.marks (w.states i l)); room = omega (arith, long c, b.requires.room) }
+    record { listed = (omega (arith, w.room, w.most), λ i l. rw b.requires.marks (w.states i l)); room = omega (arith, b.requires.room) }
 
 pub write_rows-requires : goal.write_rows-requires
 write_rows-requires c =
     let b = c in
     let z = b.args.sizes in
-    (b.requires.held, (unmarked z.states z.signs z.start b.args.marks.now b.args.nexts.now b.args.work.now b.args.rows b.requires.writable, omega (arith, long_2 c, b.requires.room)))
+    record {
+      held = b.requires.held;
+      writable = unmarked z.states z.signs z.start b.args.marks.now b.args.nexts.now b.args.work.now b.args.rows b.requires.writable;
+      room = omega (arith, b.requires.room);
+    }
 
 pub returns : goal.returns
 returns c =
@@ -47,5 +42,5 @@ returns c =
     ∙ ap (λ (s : List ℕ). sets s (12 + a.rows) (field_of 3 (rows_bytes z.states z.signs a.nexts.now a.work.now a.rows)))
     (c.write_marks.ensures
     ∙ ap (λ (s : List ℕ). sets s 12 (marks_bytes z.states a.marks.now a.work.now a.rows))
-    (c.write_sizes.ensures ∙ ap (λ (r : ℕ). sets a.out-1.now 0 (sizes_bytes a.rows z.signs r)) c.row_of.ensures.value))
-    ∙ file_stored z.states z.signs z.start a.marks.now a.nexts.now a.work.now a.rows b.requires.held b.requires.writable a.out-1.now b.requires.room
+    (c.write_sizes.ensures ∙ ap (λ (r : ℕ). sets a.out.now 0 (sizes_bytes a.rows z.signs r)) c.row_of.ensures.value))
+    ∙ file_stored z.states z.signs z.start a.marks.now a.nexts.now a.work.now a.rows b.requires.held b.requires.writable a.out.now b.requires.room

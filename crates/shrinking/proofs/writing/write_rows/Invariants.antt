@@ -10,7 +10,7 @@ use Rattle.shrinking.proofs.writing.write_rows.Given as goal
 
 abbrev pub invariant-loop-i : goal.invariant-loop-i
 invariant-loop-i l =
-    (l.i ≤ l.rows) × (length l.out-1 ≡ length l.initial.out-1) × (l.out-1 ≡ sets l.initial.out-1 (l.tag + 3) (rows_bytes l.sizes.states l.sizes.signs l.nexts l.work l.i))
+    (l.i ≤ l.rows) × (length l.out ≡ length l.initial.out) × (l.out ≡ sets l.initial.out (l.tag + 3) (rows_bytes l.sizes.states l.sizes.signs l.nexts l.work l.i))
 
 abbrev pub decreases-loop-i : goal.decreases-loop-i
 decreases-loop-i l = l.rows - l.i

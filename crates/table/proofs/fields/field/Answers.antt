@@ -3,7 +3,6 @@ use mathlib.Core.Path.{subst}
 use Rattle.table.specs.declared.answer.Part.{Part}
 use Rattle.table.specs.Bodies.{PartOf}
 use Rattle.table.proofs.Places.{body_within}
-use borrow.Author.Rules.{rules}
 use Rattle.table.proofs.fields.field.Goals as goal
 
 pub slice_of-requires : goal.slice_of-requires

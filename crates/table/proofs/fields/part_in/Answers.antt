@@ -2,7 +2,6 @@
 use borrow.Author.Tests.{eq-eqb, ne_eqb}
 use Rattle.counting.specs.Least.{pick}
 use Rattle.table.specs.Bodies.{body_in}
-use borrow.Author.Rules.{rules}
 use Rattle.table.proofs.fields.part_in.Goals as goal
 
 pub returns-then-number-eq1 : goal.returns-then-number-eq1

@@ -1,7 +1,6 @@
 -- `table::fields::slice_of` meets its contract: the part from the place to its end.
 use mathlib.Core.Path.{refl}
 use Rattle.table.proofs.Contents.{between}
-use borrow.Author.Rules.{rules}
 use Rattle.table.proofs.fields.slice_of.Goals as goal
 
 pub returns : goal.returns

@@ -1,14 +1,9 @@
 -- `table::reading::first_bad_mark` meets its contract. The loop's invariant: the marks passed are 0 or 1.
-use Prim.Native.Nat.{ℕ, ◌≤◌, ◌<◌, ◌-◌}
-use mathlib.Core.Path.{◌≡◌, sym}
-use mathlib.Core.Bool.{false}
+use mathlib.Core.Path.{sym}
 use native.Mathlib.Omega.{arith}
 use borrow.Author.Count.{below_none, below_more}
 use borrow.Author.Tests.{lt-ltb, le-ltb}
-use lib.Dec.{ltb}
-use lib.ListN.{length, get_or}
 use Rattle.counting.proofs.Leasts.{least_first, least_unique}
-use borrow.Author.Rules.{rules}
 use Rattle.table.proofs.reading.first_bad_mark.Goals as goal
 
 pub loop-q-init : goal.loop-q-init

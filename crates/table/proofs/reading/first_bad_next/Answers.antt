@@ -1,14 +1,9 @@
 -- `table::reading::first_bad_next` meets its contract. The loop's invariant: the next states passed are below n.
-use Prim.Native.Nat.{ℕ, ◌*◌, ◌≤◌, ◌<◌, ◌-◌}
-use mathlib.Core.Path.{◌≡◌, sym}
-use mathlib.Core.Bool.{false}
+use mathlib.Core.Path.{sym}
 use native.Mathlib.Omega.{arith}
 use borrow.Author.Count.{below_none, below_more}
 use borrow.Author.Tests.{le-leb, lt-leb}
-use lib.Dec.{leb}
 use Rattle.counting.proofs.Leasts.{least_first, least_unique}
-use Rattle.lending.specs.Pairs.{pair_at}
-use borrow.Author.Rules.{rules}
 use Rattle.table.proofs.reading.first_bad_next.Goals as goal
 
 pub loop-i-init : goal.loop-i-init

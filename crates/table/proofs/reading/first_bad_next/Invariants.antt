@@ -1,12 +1,8 @@
 -- `table::reading::first_bad_next` meets its contract. The loop's invariant: the next states passed are below n.
 use Prim.Native.Nat.{ℕ, ◌*◌, ◌≤◌, ◌<◌, ◌-◌}
-use mathlib.Core.Path.{◌≡◌, sym}
+use mathlib.Core.Path.{◌≡◌}
 use mathlib.Core.Bool.{false}
-use native.Mathlib.Omega.{arith}
-use borrow.Author.Count.{below_none, below_more}
-use borrow.Author.Tests.{le-leb, lt-leb}
 use lib.Dec.{leb}
-use Rattle.counting.proofs.Leasts.{least_first, least_unique}
 use Rattle.lending.specs.Pairs.{pair_at}
 use Rattle.table.proofs.reading.first_bad_next.Given as goal
 

@@ -3,7 +3,6 @@ use native.Mathlib.Nat.{mul-le-mul}
 use native.Mathlib.Omega.{arith}
 use borrow.Author.Tests.{eq-eqb, ne_eqb, lt-ltb, le-ltb}
 use Rattle.table.specs.Judging.{outside}
-use borrow.Author.Rules.{rules}
 use Rattle.table.proofs.reading.is_outside.Goals as goal
 
 pub returns-then-n-eq0 : goal.returns-then-n-eq0

@@ -1,7 +1,6 @@
 -- `table::reading::read_field` meets its contract: each `return` is one of the ways out of a due field.
 use mathlib.Core.Path.{sym, ◌∙◌}
 use Rattle.table.proofs.Dues.{no_head, wrong_tag, wrong_size, no_body, whole}
-use borrow.Author.Rules.{rules}
 use Rattle.table.proofs.reading.read_field.Goals as goal
 
 pub returns-then-file-body : goal.returns-then-file-body
