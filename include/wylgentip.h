@@ -1,6 +1,6 @@
 /* Wylgentip: the proved calls on recogniser tables, for C and for whatever links a static library.
  *
- * Link with target/staticlib/libwylgentip.a, which `rt staticlib wylgentip` writes.
+ * Link with crates/wylgentip/out/libwylgentip.a, which `rt lib` in crates/wylgentip writes.
  * Every call takes any bytes and any lengths and returns; the caller checks nothing beforehand.
  * A pointer that is lent with a length must point to that many bytes, or numbers of two bytes, for the time of the call, and
  * slices lent to one call must not overlap; with the length 0 nothing is read or written through it.

@@ -1,5 +1,5 @@
-// Names the folder of libwylgentip.a to the linker: WYLGENTIP_LIB, or the project's target/staticlib.
-// Rests on `rt staticlib wylgentip`, which writes the library there.
+// Names the folder of libwylgentip.a to the linker: WYLGENTIP_LIB, or the project's crates/wylgentip/out.
+// Rests on `rt lib` in crates/wylgentip, which writes the library there.
 
 use std::env;
 use std::path::{Path, PathBuf};
@@ -15,5 +15,5 @@ fn main() {
 
 fn of_the_project() -> PathBuf {
     let package = env::var_os("CARGO_MANIFEST_DIR").expect("the package's folder");
-    Path::new(&package).join("../target/staticlib")
+    Path::new(&package).join("../crates/wylgentip/out")
 }

@@ -1,5 +1,5 @@
 // The comparison of the proved library and programs with the second program: one module of tests a
-// subject. Rests on the library, linked as libwylgentip.a, and on the programs in target/bin.
+// subject. Rests on the library, linked as libwylgentip.a, and on the programs in crates/report/out and crates/shrink/out.
 
 mod comparison;
 mod damage;

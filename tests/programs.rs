@@ -1,5 +1,5 @@
-// The tests of the programs `report` and `shrink`, run as they stand in target/bin below the
-// project's root: standard output, standard error and exit status.
+// The tests of the programs `report` and `shrink`, run as they stand in the folders out/ of their
+// crates, where `rt ci` and `rt run` build them: standard output, standard error and exit status.
 // Rests on printed.rs and comparison.rs, on the second program, and on generate.rs and damage.rs.
 //
 // The programs read at most 65,536 bytes; the second program is given the whole input. A field's
@@ -35,12 +35,12 @@ struct Program {
 }
 
 const REPORT: Program = Program {
-    path: "target/bin/report",
+    path: "crates/report/out/report",
     second: |file| Printed::on_output(reporting::report(file)),
 };
 
 const SHRINK: Program = Program {
-    path: "target/bin/shrink",
+    path: "crates/shrink/out/shrink",
     second: second_shrink,
 };
 

@@ -1,7 +1,7 @@
 // Reads a table file from standard input and prints the report on it: its sizes, what was found, and the class of each state; or the refusal.
 #![tactic(auto)]
 
-ghost use Rattle.std.specs.Prelude.{◌≡◌, IfOk, IfSome, take};
+ghost use Rattle.std.specs.Prelude.{◌≡◌, IfOk, IfSome, IsOk, take};
 
 use lending::number_at;
 use reporting::{Numbers, Summary};
@@ -72,6 +72,9 @@ fn print_report(out: &impl Print, file: &[u8]) -> io::Result<()> {
     }
 }
 
+// What a read from a descriptor that is not open fails with.
+const NOT_OPEN: i32 = 9;
+
 // The first 65,536 bytes: an accepted file has at most 65,015, and no refusal looks behind 65,536.
 fn read_file<R: Read + Drop>(alloc: Global, input: R) -> io::Result<Vec<u8>>
     ensures { IfOk result (λ file. IfSome (R.remaining input) (λ bytes. file.items ≡ take 65536 bytes)) }
@@ -82,7 +85,17 @@ fn read_file<R: Read + Drop>(alloc: Global, input: R) -> io::Result<Vec<u8>>
     Ok(file)
 }
 
+// What was read; of an input that is closed, an empty file.
+fn or_empty(alloc: Global, read: io::Result<Vec<u8>>) -> io::Result<Vec<u8>>
+    ensures { IsOk read → result ≡ read }
+{
+    match read {
+        Err(error) if error.raw_os_error() == Some(NOT_OPEN) => Ok(Vec::new(alloc)),
+        read => read,
+    }
+}
+
 fn main(rt: HostRuntime) -> io::Result<()> {
-    let file = read_file(rt.alloc(), rt.stdin())?;
+    let file = or_empty(rt.alloc(), read_file(rt.alloc(), rt.stdin()))?;
     print_report(&rt, &file)
 }

@@ -1,5 +1,4 @@
 // Asks the proved calls about a file, and says whether they answer what is due. The lent memory is enough for nine states.
-use check::same;
 use layering::layers::{Layered, layers};
 use lending::number_at;
 use reporting::{Summary, report};
@@ -121,7 +120,7 @@ pub(crate) fn part_by(file: &[u8], p: usize, q: usize, word: &[u8]) -> bool {
     if length > found.len() {
         return false;
     }
-    same(&found[..length], word)
+    &found[..length] == word
 }
 
 // Whether the two states are alike.
@@ -147,7 +146,7 @@ pub(crate) fn shrinks_to(file: &[u8], due: &[u8]) -> bool {
     if length > out.len() {
         return false;
     }
-    same(&out[..length], due)
+    &out[..length] == due
 }
 
 // Whether the shrunk file has so many rows.

@@ -1,8 +1,8 @@
 // The samples of document 01, table by table; those with a star are the twelve of `starred`.
 ghost use Rattle.std.specs.Prelude.{◌≡◌, ◌+◌, ◌*◌, ◌<◌, ◌≤◌, length};
 
+use crate::output::Output;
 use crate::{asking, files, samples};
-use libc::STDOUT_FILENO;
 use shrinking::writing::write_sizes;
 
 #[derive(Clone, Copy)]
@@ -12,17 +12,17 @@ pub struct Counts {
 }
 
 // Prints the case's line, and counts it.
-fn show(counts: Counts, name: &[u8], held: bool) -> Counts
+fn show<P: Print>(output: &mut Output<'_, P>, counts: Counts, name: &[u8], held: bool) -> Counts
     requires { counts.passed + counts.failed < 100 }
     ensures { result.passed + result.failed ≡ counts.passed + counts.failed + 1 }
 {
     if held {
-        io::write_all(STDOUT_FILENO, b"ok      ");
+        output.write(b"ok      ");
     } else {
-        io::write_all(STDOUT_FILENO, b"FAILED  ");
+        output.write(b"FAILED  ");
     }
-    io::write_all(STDOUT_FILENO, name);
-    io::write_all(STDOUT_FILENO, b"\n");
+    output.write(name);
+    output.write(b"\n");
     if held {
         return Counts {
             passed: counts.passed + 1,
@@ -35,109 +35,125 @@ fn show(counts: Counts, name: &[u8], held: bool) -> Counts
     }
 }
 
-pub fn t1_classes(counts: Counts) -> Counts
+pub fn t1_classes<P: Print>(output: &mut Output<'_, P>, counts: Counts) -> Counts
     requires { counts.passed + counts.failed + 3 ≤ 100 }
     ensures { result.passed + result.failed ≡ counts.passed + counts.failed + 3 }
 {
     let t1 = files::t1_file();
     let classes = asking::classes_are(&t1, &[0, 1, 2, 2, 1], 3, 1);
-    let counts = show(counts, b"* T1: classes 0 1 2 2 1, m 3, r 1", classes);
+    let counts = show(
+        output,
+        counts,
+        b"* T1: classes 0 1 2 2 1, m 3, r 1",
+        classes,
+    );
     let takes = asking::takes_look_at(&t1, &[2, 4, 3, 0]);
     let counts = show(
+        output,
         counts,
         b"* T1: 4 takes looking at 2, 4, 3, 0 entries",
         takes,
     );
     let reported = asking::report_is(&t1, &[5, 2, 0, 3, 1, 4, 9, 3], &[0, 1, 2, 2, 1]);
     show(
+        output,
         counts,
         b"T1: the report, 5 2 0, 3 1 4 9 3, 0 1 2 2 1",
         reported,
     )
 }
 
-pub fn t1_words(counts: Counts) -> Counts
+pub fn t1_words<P: Print>(output: &mut Output<'_, P>, counts: Counts) -> Counts
     requires { counts.passed + counts.failed + 3 ≤ 100 }
     ensures { result.passed + result.failed ≡ counts.passed + counts.failed + 3 }
 {
     let t1 = files::t1_file();
     let counts = show(
+        output,
         counts,
         b"* T1: 0 and 1 part by 0",
         asking::part_by(&t1, 0, 1, &[0]),
     );
     let counts = show(
+        output,
         counts,
         b"* T1: 0 and 2 part by the empty word",
         asking::part_by(&t1, 0, 2, b""),
     );
     show(
+        output,
         counts,
         b"* T1: 1 and 4 are alike",
         asking::are_alike(&t1, 1, 4),
     )
 }
 
-pub fn t1_files(counts: Counts) -> Counts
+pub fn t1_files<P: Print>(output: &mut Output<'_, P>, counts: Counts) -> Counts
     requires { counts.passed + counts.failed + 2 ≤ 100 }
     ensures { result.passed + result.failed ≡ counts.passed + counts.failed + 2 }
 {
     let t1 = files::t1_file();
     let shrunk = samples::t1_shrunk();
     let counts = show(
+        output,
         counts,
         b"T1: a file of 40 bytes",
         asking::is_accepted(&t1, 5, 2),
     );
     show(
+        output,
         counts,
         b"* T1: the shrunk file",
         asking::shrinks_to(&t1, &shrunk),
     )
 }
 
-pub fn t2_cases(counts: Counts) -> Counts
+pub fn t2_cases<P: Print>(output: &mut Output<'_, P>, counts: Counts) -> Counts
     requires { counts.passed + counts.failed + 3 ≤ 100 }
     ensures { result.passed + result.failed ≡ counts.passed + counts.failed + 3 }
 {
     let t2 = files::t2_file();
     let classes = asking::classes_are(&t2, &[0, 1, 2, 3, 4, 4, 6, 6, 8], 7, 2);
     let counts = show(
+        output,
         counts,
         b"* T2: classes 0 1 2 3 4 4 6 6 8, m 7, r 2",
         classes,
     );
     let counts = show(
+        output,
         counts,
         b"* T2: 0 and 2 part by 0 1",
         asking::part_by(&t2, 0, 2, &[0, 1]),
     );
-    show(counts, b"T2: 12 takes", asking::takes_are(&t2, 12))
+    show(output, counts, b"T2: 12 takes", asking::takes_are(&t2, 12))
 }
 
-pub fn t3_cases(counts: Counts) -> Counts
+pub fn t3_cases<P: Print>(output: &mut Output<'_, P>, counts: Counts) -> Counts
     requires { counts.passed + counts.failed + 3 ≤ 100 }
     ensures { result.passed + result.failed ≡ counts.passed + counts.failed + 3 }
 {
     let t3 = files::t3_file();
     let classes = asking::classes_are(&t3, &[0, 1, 2, 3, 4, 5], 6, 4);
-    let counts = show(counts, b"* T3: six classes, r 4", classes);
+    let counts = show(output, counts, b"* T3: six classes, r 4", classes);
     let counts = show(
+        output,
         counts,
         b"* T3: 0 and 1 part by 0 0 0 0",
         asking::part_by(&t3, 0, 1, &[0, 0, 0, 0]),
     );
     let takes = asking::takes_are(&t3, 10) && asking::entries_are(&t3, 10);
-    show(counts, b"* T3: 10 takes, 10 entries", takes)
+    show(output, counts, b"* T3: 10 takes, 10 entries", takes)
 }
 
-pub fn single_cases(counts: Counts) -> Counts
+pub fn single_cases<P: Print>(output: &mut Output<'_, P>, counts: Counts) -> Counts
     requires { counts.passed + counts.failed + 1 ≤ 100 }
     ensures { result.passed + result.failed ≡ counts.passed + counts.failed + 1 }
 {
     let single = files::single_file();
     let held = asking::takes_are(&single, 0) && asking::classes_are(&single, &[0], 1, 0);
     show(
+        output,
         counts,
         b"* n 1, k 1, mark 0: no takes, r 0, one row",
         held && asking::rows_are(&single, 1),
@@ -160,41 +176,70 @@ fn refused_behind() -> bool {
     asking::is_refused(&file, 3, 40)
 }
 
-pub fn refused_heads(counts: Counts) -> Counts
+pub fn refused_heads<P: Print>(output: &mut Output<'_, P>, counts: Counts) -> Counts
     requires { counts.passed + counts.failed + 4 ≤ 100 }
     ensures { result.passed + result.failed ≡ counts.passed + counts.failed + 4 }
 {
-    let counts = show(counts, b"empty file: 1 at 0", asking::is_refused(b"", 1, 0));
-    let counts = show(counts, b"01 00: 1 at 2", asking::is_refused(&[1, 0], 1, 2));
     let counts = show(
+        output,
+        counts,
+        b"empty file: 1 at 0",
+        asking::is_refused(b"", 1, 0),
+    );
+    let counts = show(
+        output,
+        counts,
+        b"01 00: 1 at 2",
+        asking::is_refused(&[1, 0], 1, 2),
+    );
+    let counts = show(
+        output,
         counts,
         b"T1 with first byte 02: 2 at 0",
         refused_with(0, 2, 2, 0),
     );
     show(
+        output,
         counts,
         b"T1 with first length 5: 4 at 1",
         refused_with(2, 5, 4, 1),
     )
 }
 
-pub fn refused_contents(counts: Counts) -> Counts
+pub fn refused_contents<P: Print>(output: &mut Output<'_, P>, counts: Counts) -> Counts
     requires { counts.passed + counts.failed + 5 ≤ 100 }
     ensures { result.passed + result.failed ≡ counts.passed + counts.failed + 5 }
 {
-    let counts = show(counts, b"T1 with n 0: 5 at 3", refused_with(4, 0, 5, 3));
-    let counts = show(counts, b"T1 with start 5: 6 at 7", refused_with(8, 5, 6, 7));
     let counts = show(
+        output,
+        counts,
+        b"T1 with n 0: 5 at 3",
+        refused_with(4, 0, 5, 3),
+    );
+    let counts = show(
+        output,
+        counts,
+        b"T1 with start 5: 6 at 7",
+        refused_with(8, 5, 6, 7),
+    );
+    let counts = show(
+        output,
         counts,
         b"T1 with last mark 2: 7 at 16",
         refused_with(16, 2, 7, 16),
     );
     let counts = show(
+        output,
         counts,
         b"T1 with last entry 5: 8 at 38",
         refused_with(39, 5, 8, 38),
     );
-    show(counts, b"T1 with one byte more: 3 at 40", refused_behind())
+    show(
+        output,
+        counts,
+        b"T1 with one byte more: 3 at 40",
+        refused_behind(),
+    )
 }
 
 // The marks, and the next states, of a table as large as can be; the `ensures` give the length alone, which lending them as slices needs.
@@ -210,6 +255,13 @@ fn zero_nexts() -> [u16; 32000]
     [0; 32000]
 }
 
+// 65,536 bytes: room for a table as large as can be.
+fn largest_file() -> [u8; 65536]
+    ensures { 65536 ≡ length result }
+{
+    [0; 65536]
+}
+
 // Whether a table of these sizes, all its marks and next states 0, is accepted.
 fn in_range(states: usize, signs: usize) -> bool
     requires { (states ≤ 1024) × (signs ≤ 64) × (states * signs ≤ 32000) }
@@ -217,7 +269,7 @@ fn in_range(states: usize, signs: usize) -> bool
     let marks = zero_marks();
     let nexts = zero_nexts();
     let entries = states * signs;
-    let mut file = io::large_buffer();
+    let mut file = largest_file();
     let length = files::write_table(&marks[..states], &nexts[..entries], signs, &mut file);
     asking::is_accepted(&file[..length], states, signs)
 }
@@ -231,12 +283,17 @@ fn outside(states: usize, signs: usize) -> bool
     asking::is_refused(&file, 5, 3)
 }
 
-pub fn range_cases(counts: Counts) -> Counts
+pub fn range_cases<P: Print>(output: &mut Output<'_, P>, counts: Counts) -> Counts
     requires { counts.passed + counts.failed + 4 ≤ 100 }
     ensures { result.passed + result.failed ≡ counts.passed + counts.failed + 4 }
 {
-    let counts = show(counts, b"500 times 64: in range", in_range(500, 64));
-    let counts = show(counts, b"1024 times 31: in range", in_range(1024, 31));
-    let counts = show(counts, b"501 times 64: 5 at 3", outside(501, 64));
-    show(counts, b"1024 times 32: 5 at 3", outside(1024, 32))
+    let counts = show(output, counts, b"500 times 64: in range", in_range(500, 64));
+    let counts = show(
+        output,
+        counts,
+        b"1024 times 31: in range",
+        in_range(1024, 31),
+    );
+    let counts = show(output, counts, b"501 times 64: 5 at 3", outside(501, 64));
+    show(output, counts, b"1024 times 32: 5 at 3", outside(1024, 32))
 }

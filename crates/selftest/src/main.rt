@@ -4,31 +4,32 @@
 mod asking;
 mod cases;
 mod files;
+mod output;
 mod samples;
 
 use cases::Counts;
-use libc::STDOUT_FILENO;
+use output::Output;
+use std::io;
 
-fn print_counts(counts: Counts) {
-    io::print_decimal(STDOUT_FILENO, counts.passed as u64);
-    io::write_all(STDOUT_FILENO, b" passed, ");
-    io::print_decimal(STDOUT_FILENO, counts.failed as u64);
-    io::write_all(STDOUT_FILENO, b" failed\n");
+fn print_counts(out: &impl Print, counts: Counts) -> io::Result<()> {
+    println!(out; "{} passed, {} failed", counts.passed, counts.failed)
 }
 
-fn main() {
+fn main(rt: HostRuntime) -> io::Result<()> {
+    let mut output = Output::new(&rt);
     let none = Counts {
         passed: 0,
         failed: 0,
     };
-    let counts = cases::t1_classes(none);
-    let counts = cases::t1_words(counts);
-    let counts = cases::t1_files(counts);
-    let counts = cases::t2_cases(counts);
-    let counts = cases::t3_cases(counts);
-    let counts = cases::single_cases(counts);
-    let counts = cases::refused_heads(counts);
-    let counts = cases::refused_contents(counts);
-    let counts = cases::range_cases(counts);
-    print_counts(counts);
+    let counts = cases::t1_classes(&mut output, none);
+    let counts = cases::t1_words(&mut output, counts);
+    let counts = cases::t1_files(&mut output, counts);
+    let counts = cases::t2_cases(&mut output, counts);
+    let counts = cases::t3_cases(&mut output, counts);
+    let counts = cases::single_cases(&mut output, counts);
+    let counts = cases::refused_heads(&mut output, counts);
+    let counts = cases::refused_contents(&mut output, counts);
+    let counts = cases::range_cases(&mut output, counts);
+    output.finish()?;
+    print_counts(&rt, counts)
 }

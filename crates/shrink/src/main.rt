@@ -2,7 +2,7 @@
 // standard error, `refused NUMBER PLACE`, and nothing on standard output.
 #![tactic(auto)]
 
-ghost use Rattle.std.specs.Prelude.{◌≡◌, IfOk, IfSome, OnOk, length, take};
+ghost use Rattle.std.specs.Prelude.{◌≡◌, IfOk, IfSome, IsOk, OnOk, length, take};
 ghost use Rattle.std.specs.Io.KnownBytes.{Appends};
 ghost use Rattle.shrinking.specs.Shrunk.{shrunk};
 
@@ -52,6 +52,9 @@ fn shrink_file<W: Write>(file: &[u8], output: &mut W, errors: &impl Eprint) -> i
     }
 }
 
+// What a read from a descriptor that is not open fails with.
+const NOT_OPEN: i32 = 9;
+
 // The first 65,536 bytes: an accepted file has at most 65,015, and no refusal looks behind 65,536.
 fn read_file<R: Read + Drop>(alloc: Global, input: R) -> io::Result<Vec<u8>>
     ensures { IfOk result (λ file. IfSome (R.remaining input) (λ bytes. file.items ≡ take 65536 bytes)) }
@@ -62,7 +65,17 @@ fn read_file<R: Read + Drop>(alloc: Global, input: R) -> io::Result<Vec<u8>>
     Ok(file)
 }
 
+// What was read; of an input that is closed, an empty file.
+fn or_empty(alloc: Global, read: io::Result<Vec<u8>>) -> io::Result<Vec<u8>>
+    ensures { IsOk read → result ≡ read }
+{
+    match read {
+        Err(error) if error.raw_os_error() == Some(NOT_OPEN) => Ok(Vec::new(alloc)),
+        read => read,
+    }
+}
+
 fn main(rt: HostRuntime) -> io::Result<()> {
-    let file = read_file(rt.alloc(), rt.stdin())?;
+    let file = or_empty(rt.alloc(), read_file(rt.alloc(), rt.stdin()))?;
     shrink_file(&file, &mut rt.stdout(), &rt)
 }
