@@ -7,14 +7,12 @@ use Rattle.counting.specs.Lists.{at}
 use Rattle.table.specs.Answers.{gives, refuses, refusal, refused_by, told as judgedTold}
 use Rattle.table.specs.Leaving.{left}
 use Rattle.table.specs.Encoding.{machine_in, Held}
-use Rattle.table.specs.Accepted.{Good}
 use Rattle.table.specs.declared.answer.Refusal.{Refusal}
 use Rattle.table.proofs.Openings.{good}
 use Rattle.table.proofs.Handing.{marks_handed, nexts_handed, held, marks_long, marks_small}
 use Rattle.layering.specs.Layered.{Settled}
 use Rattle.layering.proofs.Ways.{layers_refused, layers_narrow, layers_short, layers_found}
 use native.Mathlib.Omega.{arith}
-use borrow.Author.Rules.{rules}
 use Rattle.layering.proofs.layers.layers.Goals as goal
 
 pub returns-in_default : goal.returns-in_default

@@ -1,10 +1,8 @@
 -- `telling::climbing::later_birth` meets its contract: each arm is a case of the test on the births.
-use Prim.Native.Nat.{ℕ}
 use borrow.Author.Tests.{lt-ltb, le-ltb}
 use Rattle.counting.specs.Least.{pick}
 use Rattle.layering.specs.Work.{born}
 use native.Mathlib.Omega.{arith}
-use borrow.Author.Rules.{rules}
 use Rattle.telling.proofs.climbing.later_birth.Goals as goal
 
 pub returns-then-birth-later : goal.returns-then-birth-later

@@ -2,7 +2,6 @@
 use mathlib.Core.Path.{sym, ◌∙◌}
 use borrow.Author.Tests.{eq-eqb, ne_eqb}
 use Rattle.counting.specs.Least.{pick}
-use borrow.Author.Rules.{rules}
 use Rattle.telling.proofs.climbing.name_before.Goals as goal
 
 pub returns-then-number_at-layer : goal.returns-then-number_at-layer

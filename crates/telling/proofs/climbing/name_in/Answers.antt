@@ -7,9 +7,6 @@ use native.Mathlib.Omega.{arith}
 use borrow.Author.Rules.{rules}
 use Rattle.telling.proofs.climbing.name_in.Goals as goal
 
-pub number_at-name-requires : goal.number_at-name-requires
-number_at-name-requires c = omega (arith, c.requires.room, c.requires.state)
-
 pub loop-name-init : goal.loop-name-init
 loop-name-init c =
     subst (Climbed c.args.n c.args.work.now c.args.x c.args.layer) (sym c.number_at-name.ensures.value)
@@ -20,9 +17,6 @@ overflow_add-n c = let l = climbed_low c.args.n c.args.work.now c.args.x c.args.
 
 pub number_at-requires : goal.number_at-requires
 number_at-requires c = omega (arith, climbed_low c.args.n c.args.work.now c.args.x c.args.layer c.loop-name.name c.loop-name.invariant c.requires.kept, c.requires.room)
-
-pub overflow_add-n-in-loop-name : goal.overflow_add-n-in-loop-name
-overflow_add-n-in-loop-name c = let l = climbed_low c.args.n c.args.work.now c.args.x c.args.layer c.loop-name.name c.loop-name.invariant c.requires.kept in search rules
 
 pub number_at-name-requires-in-loop-name : goal.number_at-name-requires-in-loop-name
 number_at-name-requires-in-loop-name c = omega (arith, climbed_low c.args.n c.args.work.now c.args.x c.args.layer c.loop-name.name c.loop-name.invariant c.requires.kept, c.requires.room)

@@ -1,7 +1,6 @@
 -- What the loop of `telling::climbing::parted_in` keeps: the states have these names, which differ, in some layer. The measure is the names' sum.
-use Prim.Native.Nat.{◌+◌, ◌<◌}
-use Rattle.telling.proofs.Ancestors.{Traced, traced_none, traced_low, traced_first, traced_more, traced_found, traced_less}
-use native.Mathlib.Omega.{arith}
+use Prim.Native.Nat.{◌+◌}
+use Rattle.telling.proofs.Ancestors.{Traced}
 use Rattle.telling.proofs.climbing.parted_in.Given as goal
 
 abbrev pub invariant-loop-n : goal.invariant-loop-n

@@ -10,14 +10,12 @@ use Rattle.lending.proofs.Memories.{cleared_same}
 use Rattle.table.specs.Answers.{refusal, refused_by, told as judgedTold}
 use Rattle.table.specs.Leaving.{left}
 use Rattle.table.specs.Encoding.{machine_in, Held}
-use Rattle.table.specs.Accepted.{Good}
 use Rattle.table.specs.declared.answer.Refusal.{Refusal}
 use Rattle.table.proofs.Openings.{good}
 use Rattle.table.proofs.Handing.{marks_handed, nexts_handed, held, marks_long, marks_small}
 use Rattle.telling.specs.Calls.{told, spoken}
 use Rattle.telling.proofs.Ways.{tell_refused, tell-first, tell_second, tell_narrow, tell-spoken}
 use native.Mathlib.Omega.{arith}
-use borrow.Author.Rules.{rules}
 use Rattle.telling.proofs.words.tell.Goals as goal
 
 pub returns-in_default : goal.returns-in_default

@@ -4,7 +4,6 @@ use mathlib.Core.Bool.{not}
 use Prim.Native.Nat.{ℕ}
 use lib.Dec.{eqb}
 use Rattle.telling.proofs.Spellings.{never_differ}
-use borrow.Author.Rules.{rules}
 use Rattle.telling.proofs.writing.differ.Goals as goal
 
 pub returns-then-number_at : goal.returns-then-number_at

@@ -1,12 +1,11 @@
 -- `telling::writing::write_word` meets its contract.
-use Prim.Native.Nat.{ℕ, ◌+◌, ◌*◌, ◌≤◌, ◌<◌, ◌-◌}
+use Prim.Native.Nat.{ℕ, ◌+◌, ◌*◌, ◌<◌}
 use native.Mathlib.Omega.{arith}
 use mathlib.Core.List.{List}
 use lib.ListN.{length}
 use Rattle.table.specs.Encoding.{Held}
 use Rattle.table.proofs.Readers.{next_within}
-use Rattle.telling.proofs.Spellings.{Spelling, spelling_none, sign_in, spelling_more, spelling_done}
-use borrow.Author.Rules.{rules}
+use Rattle.telling.proofs.Spellings.{spelling_none, sign_in, spelling_more, spelling_done}
 use Rattle.telling.proofs.writing.write_word.Goals as goal
 
 -- the place of the next state under the sign is in the slice
@@ -17,15 +16,8 @@ pub loop-i-init : goal.loop-i-init
 loop-i-init c =
     (omega arith, spelling_none _ _ _ _ _ _ _ _ _ c.requires.states.0 c.requires.states.1 c.requires.parted)
 
-pub parting_sign-a-requires : goal.parting_sign-a-requires
-parting_sign-a-requires c =
-    record { held = c.requires.held; room = c.requires.room.0; states = c.loop-i.invariant.1.states; kept = (c.requires.parted.0, c.requires.parted.1) }
-
 pub overflow_cast-word : goal.overflow_cast-word
 overflow_cast-word c = omega (arith, sign_in _ _ _ _ _ _ _ _ c.requires.held c.requires.states.0 c.requires.states.1 c.requires.parted _ _ _ _ _ _ c.loop-i.invariant.1 c.loop-i-test.true c.requires.room.1 c.parting_sign-a.ensures, c.requires.held.range.signs_most)
-
-pub bounds-word-i : goal.bounds-word-i
-bounds-word-i c = omega (arith, c.loop-i.invariant.1.long, c.requires.room.1)
 
 pub next_of-one-requires : goal.next_of-one-requires
 next_of-one-requires c =
@@ -38,11 +30,10 @@ next_of-other-requires c =
     (sign_in _ _ _ _ _ _ _ _ c.requires.held c.requires.states.0 c.requires.states.1 c.requires.parted _ _ _ _ _ _ c.loop-i.invariant.1 c.loop-i-test.true c.requires.room.1 c.parting_sign-a.ensures)
 
 pub loop-i-preserved : goal.loop-i-preserved
-loop-i-preserved c =
-    (
-      omega arith,
-      spelling_more _ _ _ _ _ _ _ _ c.requires.held c.requires.states.0 c.requires.states.1 c.requires.parted _ _ _ _ _ _ c.loop-i.invariant.1 c.loop-i-test.true c.requires.room.1 c.parting_sign-a.ensures _ _ c.next_of-one.ensures.value c.next_of-other.ensures.value,
-    )
+loop-i-preserved c = (
+  omega arith,
+  spelling_more _ _ _ _ _ _ _ _ c.requires.held c.requires.states.0 c.requires.states.1 c.requires.parted _ _ _ _ _ _ c.loop-i.invariant.1 c.loop-i-test.true c.requires.room.1 c.parting_sign-a.ensures _ _ c.next_of-one.ensures.value c.next_of-other.ensures.value,
+)
 
 pub returns : goal.returns
 returns c =

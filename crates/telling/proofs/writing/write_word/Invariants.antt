@@ -1,10 +1,6 @@
 -- What the loop of `telling::writing::write_word` keeps: the signs written are the word's, and what is to come is the word for the two states they lead to.
-use Prim.Native.Nat.{ℕ, ◌+◌, ◌*◌, ◌≤◌, ◌<◌, ◌-◌}
-use native.Mathlib.Omega.{arith}
-use lib.ListN.{length}
-use Rattle.table.specs.Encoding.{Held}
-use Rattle.table.proofs.Readers.{next_within}
-use Rattle.telling.proofs.Spellings.{Spelling, spelling_none, sign_in, spelling_more, spelling_done}
+use Prim.Native.Nat.{◌≤◌, ◌-◌}
+use Rattle.telling.proofs.Spellings.{Spelling}
 use Rattle.telling.proofs.writing.write_word.Given as goal
 
 abbrev pub invariant-loop-i : goal.invariant-loop-i
