@@ -1,123 +1,78 @@
--- `splitting::hits::count_hits` meets its contract. The loop's invariant: the states before x are counted.
-use Prim.Native.Nat.{ℕ, ◌+◌, ◌*◌, ◌≤◌, ◌<◌, ◌-◌}
-use mathlib.Core.Path.{◌≡◌, sym, ap, subst, ◌∙◌}
-use mathlib.Core.Logic.{⊎_elim}
+-- `splitting::hits::count_hits` meets its contract.
+use Prim.Native.Nat.{ℕ, ◌+◌, ◌*◌, ◌≤◌, ◌<◌}
+use mathlib.Core.Path.{◌≡◌, sym, ap, ◌∙◌}
 use mathlib.Core.List.{List, []}
+use native.Mathlib.Omega.{arith}
 use Rattle.counting.specs.Lists.{at}
-use Rattle.automaton.specs.Machine.{Machine}
 use Rattle.table.specs.Encoding.{machine_in}
-use Rattle.splitting.specs.Work.{class_in, leads_to, Counted}
+use Rattle.splitting.specs.Work.{class_in, leads_to, Classed}
 use Rattle.splitting.proofs.Places.{part_at}
 use Rattle.splitting.proofs.Columns.{counted-as, counted_none, counted_miss, counted_hit, counted_class, looked_most, led_most}
-use native.Mathlib.Omega.{arith}
-use borrow.Author.Rules.{rules}
 use Rattle.splitting.proofs.hits.count_hits.Goals as goal
+use Rattle.splitting.proofs.hits.count_hits.Goals.{then-leads, else-leads}
 
-abbrev machine : goal.Start invariant-loop decreases-loop → Machine
-machine b = machine_in b.args.sizes.states b.args.sizes.signs b.args.sizes.start [] b.args.nexts.now
+-- the class read of a state is the one that it had at the start
+class_is : (n x : ℕ) (before after : List ℕ) (r : ℕ) → x < n
+    → ((i : ℕ) → 6 * n ≤ i → at after i ≡ at before i)
+    → r ≡ at after (6 * n + x)
+    → r ≡ at (class_in n before) x
+class_is n x before after r t same e = e ∙ same (6 * n + x) (omega arith) ∙ sym (part_at n (6 * n) before x t)
 
-abbrev class : goal.Start invariant-loop decreases-loop → List ℕ
-class b = class_in b.args.sizes.states b.args.work-1.now
-
-abbrev began : goal.In-loop-x invariant-loop decreases-loop → goal.Start invariant-loop decreases-loop
-began i = i
-
--- what is read of the classes was there at the start
-lead_is : (c : goal.After-leads invariant-loop decreases-loop)
-    → c.leads.result ≡ leads_to (machine (began c)) (class (began c)) (began c).args.q (began c).args.a c.loop-x.x
-lead_is c =
-    let i = c in
-    let b = began i in
-    let l = i.loop-x in
-    c.leads.ensures
-    ∙ ap (λ (xs : List ℕ). leads_to (machine b) xs b.args.q b.args.a l.x) (counted_class (machine b) (class b) b.args.q b.args.a b.args.work-1.now l.x l.entries l.work-1 l.invariant.1 b.pre.1.1.1.0)
-
-class_is : (i : goal.In-loop-x invariant-loop decreases-loop) (r : ℕ) → r ≡ at i.before.loop.work (6 * (began i).args.sizes.states + i.before.loop.x) → r ≡ at (class (began i)) i.before.loop.x
-class_is i r e =
-    let n = (began i).args.sizes.states in
-    let l = i.loop-x in
-    e ∙ l.invariant.1.beyond (6 * n + l.x) (omega arith) ∙ sym (part_at n (6 * n) (began i).args.work-1.now l.x i.loop-x-test.true)
-
-class-in : (i : goal.In-loop-x invariant-loop decreases-loop) (r : ℕ) → r ≡ at (class (began i)) i.before.loop.x → r < (began i).args.sizes.states
-class-in i r e =
-    let t = i.loop-x-test.true in
-    omega (arith, e, t, (began i).requires.classed.low i.loop-x.x t)
-
-pub overflow_mul-classes : goal.overflow_mul-classes
-overflow_mul-classes c = omega (arith, c.requires.held.range.states_most)
+-- it is a state
+class_within : (n x r : ℕ) (class : List ℕ) → Classed n class → x < n → r ≡ at class x → r < n
+class_within n x r class d t e = omega (arith, e, d.low x t)
 
 pub loop-x-init : goal.loop-x-init
 loop-x-init c =
-    let b = c in
-    (omega arith, counted_none (machine b) (class b) b.args.q b.args.a b.args.work-1.now b.requires.unled)
+    let a = c.args in
+    let z = a.sizes in
+    (omega arith, counted_none (machine_in z.states z.signs z.start [] a.nexts.now) (class_in z.states a.work.now) a.q a.a a.work.now c.requires.unled)
 
-pub leads-requires : goal.leads-requires
-leads-requires c =
-    let i = c in
-    let b = began i in
-    (b.pre.0, ((omega (arith, i.loop-x.invariant.1.long, b.pre.1.1.1.0), omega (arith, b.pre.0.range.states_most)), (i.loop-x-test.true, b.pre.1.1.0)))
-
-pub overflow_add-classes : goal.overflow_add-classes
-overflow_add-classes c =
-    let i = c in
-    omega (arith, i.loop-x-test.true, (began i).requires.held.range.states_most)
-
-pub number_at-requires : goal.number_at-requires
-number_at-requires c =
-    let i = c in
-    omega (arith, i.loop-x-test.true, i.loop-x.invariant.1.long, (began i).requires.room)
-
-pub note_hit-requires : goal.note_hit-requires
-note_hit-requires c =
-    let i = c in
-    let l = i.loop-x in
-    let b = began i in
-    let M = machine b in
-    let r : b.args.sizes.states ≤ 1024 = b.pre.0.range.states_most in
-    let t : l.x < b.args.sizes.states = i.loop-x-test.true in
-    let m : c.number_at.result < b.args.sizes.states = class-in i _ (class_is i _ c.number_at.ensures.value) in (
-      (omega (arith, l.invariant.1.long, b.pre.1.1.1.0), r),
-      (
-        (m, omega (arith, t, looked_most M (class b) b.args.q b.args.a b.args.work-1.now l.x l.entries l.work-1 l.invariant.1)),
-        omega (arith, t, r, led_most M (class b) b.args.q b.args.a b.args.work-1.now l.x l.entries l.work-1 l.invariant.1 c.number_at.result m),
-      ),
+pub note_hit-requires-clause-within : goal.note_hit-requires-clause-within
+note_hit-requires-clause-within c =
+    let a = c.args in
+    let z = a.sizes in
+    let l = c.loop-x in
+    let d = l.invariant.1 in
+    let class = class_in z.states a.work.now in
+    (class_within z.states l.x c.number_at.result class c.requires.classed c.loop-x-test.true (class_is z.states l.x a.work.now l.work c.number_at.result c.loop-x-test.true d.beyond c.number_at.ensures.value),
+      omega (arith, looked_most (machine_in z.states z.signs z.start [] a.nexts.now) class a.q a.a a.work.now l.x l.entries l.work d),
     )
+
+pub note_hit-requires-clause-small : goal.note_hit-requires-clause-small
+note_hit-requires-clause-small c =
+    let a = c.args in
+    let z = a.sizes in
+    let l = c.loop-x in
+    let d = l.invariant.1 in
+    let class = class_in z.states a.work.now in
+    let k = class_within z.states l.x c.number_at.result class c.requires.classed c.loop-x-test.true (class_is z.states l.x a.work.now l.work c.number_at.result c.loop-x-test.true d.beyond c.number_at.ensures.value) in
+    omega (arith, led_most (machine_in z.states z.signs z.start [] a.nexts.now) class a.q a.a a.work.now l.x l.entries l.work d c.number_at.result k, c.requires.held.range.states_most)
 
 pub overflow_add-entries : goal.overflow_add-entries
 overflow_add-entries c =
-    let i = c in
-    let l = i.loop-x in
-    let b = began i in
-    omega (arith, i.loop-x-test.true, b.pre.0.range.states_most, looked_most (machine b) (class b) b.args.q b.args.a b.args.work-1.now l.x l.entries l.work-1 l.invariant.1)
-
-pub overflow_add-x : goal.overflow_add-x
-overflow_add-x c =
-    let i = c in
-    omega (arith, i.loop-x-test.true, (began i).requires.held.range.states_most)
-
-pub loop-x-smaller : goal.loop-x-smaller
-loop-x-smaller c = omega (arith, c.loop-x-test.true)
+    let a = c.args in
+    let z = a.sizes in
+    let l = c.loop-x in
+    omega (arith, looked_most (machine_in z.states z.signs z.start [] a.nexts.now) (class_in z.states a.work.now) a.q a.a a.work.now l.x l.entries l.work l.invariant.1, c.requires.held.range.states_most)
 
 pub loop-x-preserved : goal.loop-x-preserved
 loop-x-preserved c =
-    let i = c in
-    let l = i.loop-x in
-    let b = began i in
-    let M = machine b in
-    let t : l.x < b.args.sizes.states = i.loop-x-test.true in (
-      omega (arith, t),
-      ⊎_elim
-          (λ w.
-          let e = class_is i _ w.3.ensures.0 in
-          counted-as (sym (w.7 ∙ w.4.ensures)) (sym w.8)
-          (counted_hit M (class b) b.args.q b.args.a b.args.work-1.now l.x l.entries l.work-1 l.invariant.1 w.3.result e t (class-in i _ e) (omega (arith, b.pre.1.1.1.0)) (sym (lead_is c) ∙ w.0.taken)))
-          (λ w. counted-as (sym w.1) (sym w.2) (counted_miss M (class b) b.args.q b.args.a b.args.work-1.now l.x l.entries l.work-1 l.invariant.1 (sym (lead_is c) ∙ w.0.left)))
-          c.if-leads.branch,
-    )
-
-pub returns : goal.returns
-returns c =
+    let a = c.args in
+    let z = a.sizes in
     let l = c.loop-x in
-    let b = c in
-    let e : l.x ≡ b.args.sizes.states = omega (arith, l.invariant.0, c.loop-x-test.false) in
-    subst (λ (x : ℕ). Counted (machine b) (class b) b.args.q b.args.a x b.args.work-1.now l.work-1 l.entries) e l.invariant.1
+    let d = l.invariant.1 in
+    let t = c.loop-x-test.true in
+    let M = machine_in z.states z.signs z.start [] a.nexts.now in
+    let class = class_in z.states a.work.now in
+    let lead_is : c.leads.result ≡ leads_to M class a.q a.a l.x =
+      (c.leads.ensures ∙ ap (λ (xs : List ℕ). leads_to M xs a.q a.a l.x) (counted_class M class a.q a.a a.work.now l.x l.entries l.work d (omega (arith, c.requires.room)))) in (
+      omega (arith, t),
+      elim c.if-leads.branch [
+        | then-leads w ↦
+            (let e = class_is z.states l.x a.work.now l.work w.number_at.result t d.beyond w.number_at.ensures.value in
+            counted-as (sym (w.work-is ∙ w.note_hit.ensures)) (sym w.entries-is)
+            (counted_hit M class a.q a.a a.work.now l.x l.entries l.work d w.number_at.result e t (class_within z.states l.x w.number_at.result class c.requires.classed t e) (omega (arith, c.requires.room)) (sym lead_is ∙ w.if-leads.true)))
+        | else-leads w ↦ counted-as (sym w.work-is) (sym w.entries-is) (counted_miss M class a.q a.a a.work.now l.x l.entries l.work d (sym lead_is ∙ w.if-leads.false))
+      ],
+    )

@@ -8,30 +8,22 @@ use Rattle.splitting.specs.Work.{leads_to}
 use Rattle.splitting.proofs.Places.{part_at}
 use Prim.Native.Nat.{ℕ, ◌<◌}
 use native.Mathlib.Omega.{arith}
-use borrow.Author.Rules.{rules}
 use Rattle.splitting.proofs.hits.leads.Goals as goal
-
--- the next state is a state
-next_in : (c : goal.After-next_of) → c.next_of.result < c.before.before.before.args.sizes.states
-next_in c =
-    let b = c in
-    omega (arith, c.next_of.ensures.value, b.requires.held.next_in b.args.x b.args.a b.requires.state.0 b.requires.state.1)
 
 pub next_of-requires : goal.next_of-requires
 next_of-requires c =
-    let b = c in
-    let z = b.args.sizes in
-    omega (arith, b.requires.held.long, next_within z.states z.signs b.args.x b.args.a b.requires.state.0 b.requires.state.1)
+    let z = c.args.sizes in
+    omega (arith, c.requires.held.long, next_within z.states z.signs c.args.x c.args.a c.requires.state.0 c.requires.state.1)
 
 pub number_at-requires : goal.number_at-requires
-number_at-requires c = omega (arith, next_in c, c.requires.room.0)
+number_at-requires c =
+    omega (arith, c.next_of.ensures.value, c.requires.held.next_in c.args.x c.args.a c.requires.state.0 c.requires.state.1)
 
 pub returns : goal.returns
 unfolding leads_to
 returns c =
-    let k = c in
-    let b = k in
-    let n = b.args.sizes.states in
-    let work = b.args.work.now in
-    ap (λ (y : ℕ). eqb y b.args.q)
-    (c.number_at.ensures.value ∙ sym (part_at n b.args.place work k.next_of.result (next_in k)) ∙ ap (at (take n (drop b.args.place work))) k.next_of.ensures.value)
+    let n = c.args.sizes.states in
+    let work = c.args.work.now in
+    let next_in : c.next_of.result < n = omega (arith, c.next_of.ensures.value, c.requires.held.next_in c.args.x c.args.a c.requires.state.0 c.requires.state.1) in
+    ap (λ (y : ℕ). eqb y c.args.q)
+    (c.number_at.ensures.value ∙ sym (part_at n c.args.place work c.next_of.result next_in) ∙ ap (at (take n (drop c.args.place work))) c.next_of.ensures.value)

@@ -1,11 +1,8 @@
 -- `splitting::lists::ill_formed` meets its contract. The loop's invariant: the states passed keep the rules.
 use Prim.Native.Nat.{ℕ, ◌≤◌, ◌<◌, ◌-◌}
-use mathlib.Core.Path.{◌≡◌, sym, ap, ◌∙◌}
+use mathlib.Core.Path.{◌≡◌}
 use mathlib.Core.Bool.{false, not}
-use native.Mathlib.Omega.{arith}
-use borrow.Author.Count.{below_none, below_more}
-use Rattle.counting.proofs.Leasts.{least_first, least_none}
-use Rattle.refining.specs.Lists.{formed, ill_formed}
+use Rattle.refining.specs.Lists.{formed}
 use Rattle.splitting.specs.Work.{lists}
 use Rattle.splitting.proofs.lists.ill_formed.Given as goal
 

@@ -7,7 +7,7 @@ use Rattle.splitting.proofs.Sharing.{Fit, shared_none, first_ahead, part_ahead, 
 use Rattle.splitting.proofs.parts.share.Given as goal
 
 abbrev pub invariant-loop-p : goal.invariant-loop-p
-invariant-loop-p l = (l.p ≤ l.n) × Shared l.n l.signs l.p l.initial.work-1 l.work-1
+invariant-loop-p l = (l.p ≤ l.n) × Shared l.n l.signs l.p l.initial.work l.work
 
 abbrev pub decreases-loop-p : goal.decreases-loop-p
 decreases-loop-p l = l.n - l.p

@@ -2,7 +2,6 @@
 use borrow.Author.Tests.{lt-ltb, le-ltb}
 use Rattle.counting.specs.Least.{pick}
 use Rattle.splitting.specs.RunCall.{allowed}
-use borrow.Author.Rules.{rules}
 use Rattle.splitting.proofs.runs.allowed_takes.Goals as goal
 
 pub returns-then-budget-gt65535 : goal.returns-then-budget-gt65535

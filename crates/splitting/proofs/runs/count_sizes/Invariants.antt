@@ -1,12 +1,7 @@
 -- `splitting::runs::count_sizes` meets its contract. The loop's invariant: the first x states are counted.
-use Prim.Native.Nat.{ℕ, ◌+◌, ◌*◌, ◌≤◌, ◌<◌, ◌-◌}
-use mathlib.Core.List.{List}
-use mathlib.Core.Path.{◌≡◌, sym, subst, ◌∙◌}
-use Rattle.counting.specs.Lists.{at}
+use Prim.Native.Nat.{◌≤◌, ◌-◌}
 use Rattle.splitting.specs.Work.{class_in}
-use Rattle.splitting.proofs.Places.{part_at}
-use Rattle.splitting.proofs.Sizing.{Sizing, sizing_none, size_most, sizing_more}
-use native.Mathlib.Omega.{arith}
+use Rattle.splitting.proofs.Sizing.{Sizing}
 use Rattle.splitting.proofs.runs.count_sizes.Given as goal
 
 abbrev pub invariant-loop-x : goal.invariant-loop-x

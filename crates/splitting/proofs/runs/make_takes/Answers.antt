@@ -29,17 +29,17 @@ began i = i
 -- the class found waits, and none below it does
 waits : (e : goal.Else-q-n invariant-loop decreases-loop)
     → (e.first_waiting-q.result < (began (inside e)).args.sizes.states)
-    × (pending_of (began (inside e)).args.sizes.states (inside e).loop-takes.work-1 e.first_waiting-q.result ≢ 0)
-    × ((p : ℕ) → p < e.first_waiting-q.result → pending_of (began (inside e)).args.sizes.states (inside e).loop-takes.work-1 p ≡ 0)
+    × (pending_of (began (inside e)).args.sizes.states (inside e).loop-takes.work e.first_waiting-q.result ≢ 0)
+    × ((p : ℕ) → p < e.first_waiting-q.result → pending_of (began (inside e)).args.sizes.states (inside e).loop-takes.work p ≡ 0)
 waits e =
     let l = (inside e).loop-takes in
     let b = began (inside e) in
-    first_waits (machine b) b.args.work-1.now l.work-1 l.takes l.entries l.low l.inv.1 e.first_waiting-q.result e.first_waiting-q.ensures e.if-q-n.false
+    first_waits (machine b) b.args.work.now l.work l.takes l.entries l.low l.inv.1 e.first_waiting-q.result e.first_waiting-q.ensures e.if-q-n.false
 
 -- one take more
 further : (c : goal.After-take_one-look invariant-loop decreases-loop)
     → (c.take_one-look.result.entries ≤ 1024)
-    × Progress (machine (began (inside (found c)))) (began (inside (found c))).args.work-1.now c.take_one-look.new.1.1.0 ((inside (found c)).loop-takes.takes + 1) ((inside (found c)).loop-takes.entries + c.take_one-look.result.entries) (pick c.take_one-look.result.split 0 (found c).first_waiting-q.result)
+    × Progress (machine (began (inside (found c)))) (began (inside (found c))).args.work.now c.take_one-look.new.1.1.0 ((inside (found c)).loop-takes.takes + 1) ((inside (found c)).loop-takes.entries + c.take_one-look.result.entries) (pick c.take_one-look.result.split 0 (found c).first_waiting-q.result)
 further c =
     let e = found c in
     let b = began (inside e) in
@@ -47,14 +47,14 @@ further c =
     let t = c.take_one-look.ensures in
     let w = waits e in
     let few = b.pre.0.range.states_most in (
-      looked_more (machine b) l.work-1 c.take_one-look.new.1.1.0 c.take_one-look.result.entries few t.0,
-      progress_more (machine b) b.args.work-1.now l.work-1 l.takes l.entries l.low l.inv.1 e.first_waiting-q.result w.0 w.1 (held_lawful [] b.pre.0) few c.take_one-look.new.1.1.0 c.take_one-look.result.entries t.0 c.take_one-look.result.split t.1,
+      looked_more (machine b) l.work c.take_one-look.new.1.1.0 c.take_one-look.result.entries few t.0,
+      progress_more (machine b) b.args.work.now l.work l.takes l.entries l.low l.inv.1 e.first_waiting-q.result w.0 w.1 (held_lawful [] b.pre.0) few c.take_one-look.new.1.1.0 c.take_one-look.result.entries t.0 c.take_one-look.result.split t.1,
     )
 
 pub loop-takes-init : goal.loop-takes-init
 loop-takes-init c =
     let b = c in
-    (omega arith, progress_none (machine b) b.args.work-1.now b.requires.formed b.requires.ready)
+    (omega arith, progress_none (machine b) b.args.work.now b.requires.formed b.requires.ready)
 
 pub first_waiting-q-requires : goal.first_waiting-q-requires
 first_waiting-q-requires c =
@@ -68,7 +68,7 @@ returns-then-q-n c =
     let i = f in
     let l = i.loop-takes in
     let b = began i in
-    ran_idle (machine b) b.args.work-1.now l.work-1 l.takes l.entries l.low l.invariant.1 b.args.budget l.invariant.0 (sym c.if-q-n.true ∙ f.first_waiting-q.ensures)
+    ran_idle (machine b) b.args.work.now l.work l.takes l.entries l.low l.invariant.1 b.args.budget l.invariant.0 (sym c.if-q-n.true ∙ f.first_waiting-q.ensures)
 
 pub take_one-look-requires : goal.take_one-look-requires
 take_one-look-requires c =
@@ -104,4 +104,4 @@ pub returns : goal.returns
 returns c =
     let l = c.loop-takes in
     let b = c in
-    ran_all (machine b) b.args.work-1.now l.work-1 l.takes l.entries l.low l.invariant.1 b.args.budget (omega (arith, l.invariant.0, c.loop-takes-test.false))
+    ran_all (machine b) b.args.work.now l.work l.takes l.entries l.low l.invariant.1 b.args.budget (omega (arith, l.invariant.0, c.loop-takes-test.false))

@@ -14,7 +14,7 @@ use Rattle.splitting.proofs.runs.make_takes.Given as goal
 
 abbrev pub invariant-loop-takes : goal.invariant-loop-takes
 invariant-loop-takes l =
-    (l.takes ≤ l.budget) × Progress (machine_in l.sizes.states l.sizes.signs l.sizes.start [] l.nexts) l.initial.work-1 l.work-1 l.takes l.entries l.low
+    (l.takes ≤ l.budget) × Progress (machine_in l.sizes.states l.sizes.signs l.sizes.start [] l.nexts) l.initial.work l.work l.takes l.entries l.low
 
 abbrev pub decreases-loop-takes : goal.decreases-loop-takes
 decreases-loop-takes l = 65535 - l.takes

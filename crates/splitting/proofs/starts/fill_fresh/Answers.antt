@@ -21,6 +21,6 @@ returns c =
     let d = c in
     let b = d in
     let marks = b.args.marks.now in
-    filled_fresh b.args.n b.args.signs d.count_accepting.result d.due_mark-due.result marks b.args.pending-1.now c.fill_pending.new.1.0 b.requires.marked.1
+    filled_fresh b.args.n b.args.signs d.count_accepting.result d.due_mark-due.result marks b.args.pending.now c.fill_pending.new.1.0 b.requires.marked.1
     (d.count_accepting.ensures ∙ ap (λ (m : ℕ). count m (λ x. eqb (at marks x) 1)) b.requires.marked.0)
     d.due_mark-due.ensures c.fill_pending.ensures

@@ -38,14 +38,14 @@ returns-in_default c =
     let b = c in
     let a = c.args in
     let e = b.in_default.is in
-    ap (λ (r : Refusal). left (refusal r) (a.class-1.now ∷ a.pending-1.now ∷ [])) (c.refused_by.ensures ∙ ap refused_by e)
-    ∙ start_refused a.file.now a.class-1.now a.pending-1.now (sym b.judge-judged.ensures ∙ ap judgedTold e)
+    ap (λ (r : Refusal). left (refusal r) (a.class.now ∷ a.pending.now ∷ [])) (c.refused_by.ensures ∙ ap refused_by e)
+    ∙ start_refused a.file.now a.class.now a.pending.now (sym b.judge-judged.ensures ∙ ap judgedTold e)
 
 pub returns-then-class-n : goal.returns-then-class-n
 returns-then-class-n c =
     let k = c in
     let a = k.args in
-    start_short a.file.now k.in-Accepted.sizes (accepted k) a.class-1.now a.pending-1.now (⊎_elim (λ w. inl w.taken) (λ w. inr (ltb-true _ _ w.1.taken)) c.if-class-n.branch)
+    start_short a.file.now k.in-Accepted.sizes (accepted k) a.class.now a.pending.now (⊎_elim (λ w. inl w.taken) (λ w. inr (ltb-true _ _ w.1.taken)) c.if-class-n.branch)
 
 pub field_of-marks-requires : goal.field_of-marks-requires
 field_of-marks-requires c = accepted c
@@ -72,7 +72,7 @@ returns c =
     let k = f in
     let z = k.in-Accepted.sizes in
     let a = k.args in
-    start_fresh a.file.now z (accepted k) a.class-1.now a.pending-1.now f.if-class-n.false (ltb-false _ _ f.if-pending-n.false) n.mark_names.new.1.0
-    (subst (λ (marks : List ℕ). FirstNamed marks z.states a.class-1.now n.mark_names.new.1.0) (handed f) n.mark_names.ensures)
+    start_fresh a.file.now z (accepted k) a.class.now a.pending.now f.if-class-n.false (ltb-false _ _ f.if-pending-n.false) n.mark_names.new.1.0
+    (subst (λ (marks : List ℕ). FirstNamed marks z.states a.class.now n.mark_names.new.1.0) (handed f) n.mark_names.ensures)
     p.new.1.0
-    (subst (λ (marks : List ℕ). FreshFilled z.states z.signs marks a.pending-1.now p.new.1.0) (handed f) p.ensures)
+    (subst (λ (marks : List ℕ). FreshFilled z.states z.signs marks a.pending.now p.new.1.0) (handed f) p.ensures)

@@ -8,4 +8,4 @@ returns c =
     let b = c in
     let m = c.mark_names in
     let p = c.fill_fresh in
-    started_in b.args.sizes.states b.args.sizes.signs b.args.marks.now b.args.work-1.now m.new.1.0 p.new.1.0 b.requires.room m.ensures p.ensures
+    started_in b.args.sizes.states b.args.sizes.signs b.args.marks.now b.args.work.now m.new.1.0 p.new.1.0 b.requires.room m.ensures p.ensures

@@ -37,15 +37,15 @@ abbrev machine : goal.Start → Machine
 machine b = machine_in b.args.sizes.states b.args.sizes.signs b.args.sizes.start [] b.args.nexts.now
 
 due : (c : goal.After-number_at-a)
-    → Due (machine (began c)) (class_in (began c).args.sizes.states (began c).args.work-1.now) (pending_in (began c).args.sizes.states (began c).args.work-1.now) (began c).args.q (c.number_at-a.result - 1)
+    → Due (machine (began c)) (class_in (began c).args.sizes.states (began c).args.work.now) (pending_in (began c).args.sizes.states (began c).args.work.now) (began c).args.q (c.number_at-a.result - 1)
 due c =
     let b = began c in
     let w = b.pre.1.1.1 in
-    due_in (machine b) b.args.work-1.now b.args.q (c.number_at-a.result - 1) (held_lawful [] b.pre.0) b.pre.1.1.0.room b.pre.1.0 w.0 (omega (arith, c.number_at-a.ensures.value, w.1)) w.2
+    due_in (machine b) b.args.work.now b.args.q (c.number_at-a.result - 1) (held_lawful [] b.pre.0) b.pre.1.1.0.room b.pre.1.0 w.0 (omega (arith, c.number_at-a.ensures.value, w.1)) w.2
 
 -- what is left where a class is split, and where none is
 split_taken : (t : goal.After-adopt)
-    → Taken (machine (began (read (counted (settled (renamed (shared t))))))) (began (read (counted (settled (renamed (shared t)))))).args.work-1.now t.adopt.new.0 (counted (settled (renamed (shared t)))).count_hits-entries.result
+    → Taken (machine (began (read (counted (settled (renamed (shared t))))))) (began (read (counted (settled (renamed (shared t)))))).args.work.now t.adopt.new.0 (counted (settled (renamed (shared t)))).count_hits-entries.result
 split_taken t =
     let p = shared t in
     let m = renamed p in
@@ -54,7 +54,7 @@ split_taken t =
     taken_split _ _ _ _ (due k) (began k).pre.1.1.0 _ _ _ _ (counted h).count_hits-entries.ensures h.settle_hits-split.ensures _ m.rename.ensures _ _ p.share.ensures t.adopt.ensures
 
 quiet_taken : (c : goal.Else-split)
-    → Taken (machine (began (read (counted c)))) (began (read (counted c))).args.work-1.now c.settle_hits-split.new.0 (counted c).count_hits-entries.result
+    → Taken (machine (began (read (counted c)))) (began (read (counted c))).args.work.now c.settle_hits-split.new.0 (counted c).count_hits-entries.result
 quiet_taken c =
     let h = c in
     let k = read (counted h) in
