@@ -12,5 +12,5 @@ returns-in-Accepted c = ap flat_judged (sym (ap told c.in-Accepted.is) ∙ c.jud
 pub returns-in-Refused : goal.returns-in-Refused
 returns-in-Refused c =
     let a = c in
-    ap (λ (number : ℕ). flat_judged (refuses number a.in-Refused.refusal.place)) c.number_of_lem.ensures
+    ap (λ (number : ℕ). flat_judged (refuses number a.in-Refused.refusal.place)) c.number_of.ensures
     ∙ ap flat_judged (sym (ap told a.in-Refused.is) ∙ a.judge-answer.ensures)

@@ -12,4 +12,4 @@ returns-in-Found c = ap layers_flat (sym c.in-Found.is)
 pub returns-in-Refused : goal.returns-in-Refused
 returns-in-Refused c =
     let a = c in
-    ap (λ (number : ℕ). flat_layers (refuses number a.in-Refused.refusal.place)) c.number_of_lem.ensures ∙ ap layers_flat (sym a.in-Refused.is)
+    ap (λ (number : ℕ). flat_layers (refuses number a.in-Refused.refusal.place)) c.number_of.ensures ∙ ap layers_flat (sym a.in-Refused.is)

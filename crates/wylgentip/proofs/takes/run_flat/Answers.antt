@@ -12,4 +12,4 @@ returns-in-Made c = ap run_flat (sym c.in-Made.is)
 pub returns-in-Refused : goal.returns-in-Refused
 returns-in-Refused c =
     let a = c in
-    ap (λ (number : ℕ). flat_run (refuses number a.in-Refused.refusal.place)) c.number_of_lem.ensures ∙ ap run_flat (sym a.in-Refused.is)
+    ap (λ (number : ℕ). flat_run (refuses number a.in-Refused.refusal.place)) c.number_of.ensures ∙ ap run_flat (sym a.in-Refused.is)

@@ -12,4 +12,4 @@ returns-in-Fresh c = ap start_flat (sym c.in-Fresh.is)
 pub returns-in-Refused : goal.returns-in-Refused
 returns-in-Refused c =
     let a = c in
-    ap (λ (number : ℕ). flat_start (refuses number a.in-Refused.refusal.place)) c.number_of_lem.ensures ∙ ap start_flat (sym a.in-Refused.is)
+    ap (λ (number : ℕ). flat_start (refuses number a.in-Refused.refusal.place)) c.number_of.ensures ∙ ap start_flat (sym a.in-Refused.is)

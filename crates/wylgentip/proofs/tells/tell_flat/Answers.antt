@@ -15,4 +15,4 @@ returns-in-Apart c = ap tell_flat (sym c.in-Apart.is)
 pub returns-in-Refused : goal.returns-in-Refused
 returns-in-Refused c =
     let a = c in
-    ap (λ (number : ℕ). flat_tell (refuses number a.in-Refused.refusal.place)) c.number_of_lem.ensures ∙ ap tell_flat (sym a.in-Refused.is)
+    ap (λ (number : ℕ). flat_tell (refuses number a.in-Refused.refusal.place)) c.number_of.ensures ∙ ap tell_flat (sym a.in-Refused.is)

@@ -12,4 +12,4 @@ returns-in-Ended c = ap flat_of (sym c.in-Ended.is)
 pub returns-in-Refused : goal.returns-in-Refused
 returns-in-Refused c =
     let a = c in
-    ap (λ (number : ℕ). flat_ran (refuses number a.in-Refused.refusal.place)) c.number_of_lem.ensures ∙ ap flat_of (sym a.in-Refused.is)
+    ap (λ (number : ℕ). flat_ran (refuses number a.in-Refused.refusal.place)) c.number_of.ensures ∙ ap flat_of (sym a.in-Refused.is)
