@@ -31,12 +31,17 @@ module _ (M : Machine) (lawful : Lawful M) where
   is-row q l r =
       (any_iff M.size (held (at (classes M) q))).1 (q, l, ap₂ ◌&&◌ ((reachable_iff M lawful q l).1 r) (eq-eqb (at (classes M) q) (at (classes M) q) refl))
 
+  -- they stand in rising order
+  rows_rise : (i j : ℕ) → i < j → j < length (rows M) → at (rows M) i < at (rows M) j
+  unfolding rows rows_for
+  rows_rise = those_rise M.size _
+
   pub rows_of : RowsOf M (rows M)
   unfolding rows rows_for
   rows_of = record {
-    here = λ q l r. those_here M.size is_row (at (classes M) q) (classes-in M lawful q l) (is-row q l r);
+    here = λ q l r. those_here M.size _ (at (classes M) q) (classes-in M lawful q l) (is-row q l r);
     only = λ i l.
-        let (q, k, h) = (any_iff M.size (held (at (rows M) i))).0 (those_pass M.size is_row i l).1 in
+        let (q, k, h) = (any_iff M.size _).0 (those_pass M.size _ i l).1 in
         let (u, v) = and-true (get_or (reachable M) q false) (eqb (at (classes M) q) (at (rows M) i)) h in
         (q, k, (reachable_iff M lawful q k).0 u, eqb-true (at (classes M) q) (at (rows M) i) v);
     once = once;
@@ -46,8 +51,8 @@ module _ (M : Machine) (lawful : Lawful M) where
       once i j k l e = by (dec_lt i j) (dec_lt j i)
         where
           by : Dec (i < j) → Dec (j < i) → i ≡ j
-          by (yes m) d = absurd (omega (arith, those_rise M.size is_row i j m l))
-          by (no u) (yes m) = absurd (omega (arith, those_rise M.size is_row j i m k))
+          by (yes m) d = absurd (omega (arith, rows_rise i j m l))
+          by (no u) (yes m) = absurd (omega (arith, rows_rise j i m k))
           by (no u) (no v) = omega arith
 
   pub classes_collapsed : Collapsed M → (q : ℕ) → q < M.size → at (classes M) q ≡ q

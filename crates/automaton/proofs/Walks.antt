@@ -53,7 +53,7 @@ module _ (M : Machine) where
   pub same_steps : {p q : ℕ} (w : List ℕ) → Word M.signs w → Same M p q → Same M (steps M p w) (steps M q w)
   unfolding steps
   same_steps [] h s = s
-  same_steps (a ∷ w) h s = same_steps w h.1 (same_next a h.0 s)
+  same_steps {p = p} {q = q} (a ∷ w) h s = same_steps {p = M.next p a} {q = M.next q a} w h.1 (same_next a h.0 s)
 
   module _ (lawful : Lawful M) where
     pub steps_in : (q : ℕ) (w : List ℕ) → q < M.size → Word M.signs w → steps M q w < M.size

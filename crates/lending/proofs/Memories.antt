@@ -1,10 +1,13 @@
 -- Lent memory told apart number by number: what is cleared at its front, and what is written there.
-use mathlib.Core.Path.{◌≡◌, sym, ap, ap₂, ◌∙◌}
+use mathlib.Core.Path.{◌≡◌, sym, ap, ap₂, subst, ◌∙◌}
+use mathlib.Core.Logic.{◌≢◌}
 use mathlib.Core.List.{List, ◌++◌}
-use Prim.Native.Nat.{ℕ, ◌+◌, ◌-◌, ◌≤◌, ◌<◌}
+use Prim.Native.Nat.{ℕ, ◌+◌, ◌*◌, ◌-◌, ◌≤◌, ◌<◌}
+use native.Mathlib.Decide.{dec_lt, ℕ_discrete}
 use native.Mathlib.Omega.{arith}
-use lib.ListN.{length, get_or, drop, take, replicate, length-drop, length-take, take-append-drop, length-append, length-replicate, get_or-replicate, get_or-append}
-use lib.Seq.{take_at, drop_at, get_or-take, get_or-drop, get_or-append-add, ext_get_or}
+use native.Mathlib.Nat.{mul-le-mul_right}
+use lib.ListN.{length, get_or, set, drop, take, replicate, length-drop, length-take, take-append-drop, length-append, length-replicate, get_or-replicate, get_or-append}
+use lib.Seq.{take_at, drop_at, get_or-take, get_or-drop, get_or-append-add, get_or-set_same, get_or-set_other, ext_get_or}
 use Rattle.counting.specs.Lists.{at}
 use Rattle.lending.specs.Memory.{cleared, written}
 
@@ -69,3 +72,19 @@ unfolding written
 written_over result former lent long =
     ap (λ (rest : List ℕ). result ++ rest)
     (drop_at former (drop (length former) lent) (length result) (sym long) ∙ ap (λ (m : ℕ). drop m lent) (sym long))
+
+-- what holds of a number stored, and of each other number before, holds of each after
+pub set_each : (P : ℕ → ℕ → Type 0) (w : List ℕ) (r v n : ℕ) → r < length w → P r v → ((z : ℕ) → z < n → z ≢ r → P z (at w z)) → (z : ℕ) → z < n → P z (at (set w r v) z)
+set_each P w r v n room here rest z l =
+    elim (ℕ_discrete z r) [
+      | yes e ↦ subst (λ (y : ℕ). P y (at (set w r v) y)) (sym e) (subst (P r) (sym (get_or-set_same w r v 0 room)) here)
+      | no d ↦ subst (P z) (sym (get_or-set_other w r z v 0 d)) (rest z l d)
+    ]
+
+-- places of columns of n numbers differ where the places within the columns do
+pub columns_apart : (n c d i j : ℕ) → i < n → j < n → i ≢ j → c * n + i ≢ d * n + j
+columns_apart n c d i j l m u e =
+    elim (dec_lt c d) [
+      | yes h ↦ omega (arith, mul-le-mul_right n h)
+      | no h ↦ elim (dec_lt d c) [ yes k ↦ omega (arith, mul-le-mul_right n k) | no k ↦ let f : c ≡ d = omega arith in u (omega (arith, ap (λ (z : ℕ). z * n) f)) ]
+    ]

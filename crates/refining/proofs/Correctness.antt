@@ -55,7 +55,7 @@ module _ (M : Machine) (lawful : Lawful M) where
       ends_alike x y (b ∷ w) k l h e =
           let i : M.next x b < M.size = lawful.next_in x b k h.0 in
           let j : M.next y b < M.size = lawful.next_in y b l h.0 in
-          ends_alike _ _ w i j h.1
+          ends_alike (M.next x b) (M.next y b) w i j h.1
           (elim (ℕ_discrete (class (M.next x b)) (class (M.next y b))) [
             | yes f ↦ f
             | no u ↦ absurd (⊎_elim (quiet _ b i h.0) (quiet _ b j h.0) (s.watched x y b k l h.0 e u))

@@ -48,7 +48,7 @@ module _ (size kind : ℕ → ℕ) where
       let (c, k, h) = first j in
       ⊎_elim
       (λ p. (c, omega arith, λ d l. elim (ℕ_discrete d (suc j)) [ yes e ↦ rw e p | no u ↦ h d (omega arith) ]))
-      (λ p. (suc j, omega arith, λ d l. elim (ℕ_discrete d (suc j)) [ yes e ↦ rw e (inr (omega arith)) | no u ↦ prior_over (suc j) c d p (h d (omega arith)) ]))
+      (λ (p : Prior size kind (suc j) c). (suc j, omega arith, λ d l. elim (ℕ_discrete d (suc j)) [ yes e ↦ rw e (inr (omega arith)) | no u ↦ prior_over (suc j) c d p (h d (omega arith)) ]))
       (prior_total c (suc j))
 
 implied : (a b : Bool) → ((not a || b) ≡ true) ↔ (a ≡ true → b ≡ true)

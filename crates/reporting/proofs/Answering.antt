@@ -22,7 +22,7 @@ use Rattle.refining.proofs.Demand.{whole_takes}
 use Rattle.lending.specs.Memory.{cleared, written}
 use Rattle.lending.proofs.Memories.{written_front}
 use Rattle.table.specs.Answers.{Said, gives, refuses}
-use Rattle.table.specs.Judging.{judged, states_of, signs_of, start_of, ◌andThen◌}
+use Rattle.table.specs.Judging.{judged, states_of, signs_of, start_of, ◌and_then◌}
 use Rattle.table.specs.Leaving.{Left, left}
 use Rattle.table.specs.Rows.{Right, InRange}
 use Rattle.table.specs.Encoding.{machine_of}
@@ -42,7 +42,7 @@ use Rattle.reporting.specs.Reports.{Reported, report_of}
 
 -- a refused file is reported by its refusal
 pub reported_refused : (file names : List ℕ) {number place : ℕ} → judged file ≡ refuses number place → Reported file (refuses number place) names
-unfolding report_of ◌andThen◌
+unfolding report_of ◌and_then◌
 reported_refused file names e = record { answer = rw e; named = λ vs g. absurd (not_refused (sym g ∙ e)) }
 
 allowed_full : allowed 65535 ≡ 65535
@@ -167,7 +167,7 @@ module _ (file : List ℕ) (right : Right file) where
             → gives (m ∷ r ∷ []) ≡ gives (class_count (machine_of file).size (classes (machine_of file)) ∷ rounds (machine_of file) ∷ [])
             → gives (count ∷ long ∷ []) ≡ gives (length (rows (machine_of file)) ∷ length (shrunk file) ∷ [])
             → Reported file (gives (z.states ∷ z.signs ∷ z.start ∷ m ∷ r ∷ takes ∷ looked ∷ count ∷ [])) class₂
-        unfolding report_of ◌andThen◌
+        unfolding report_of ◌and_then◌
         reported_made {z} g l s =
             let a : z.states ≡ states_of file = g.states in
             let b : z.signs ≡ signs_of file = g.signs in

@@ -6,7 +6,7 @@ use Rattle.automaton.specs.Quotient.{rows}
 use Rattle.refining.specs.Fresh.{fresh}
 use Rattle.refining.specs.Run.{run_takes, run_entries}
 use Rattle.table.specs.Answers.{Said, gives, refusal, when_given}
-use Rattle.table.specs.Judging.{judged, states_of, signs_of, start_of, ◌andThen◌}
+use Rattle.table.specs.Judging.{judged, states_of, signs_of, start_of, ◌and_then◌}
 use Rattle.table.specs.Leaving.{Left, left, on_file}
 use Rattle.table.specs.Encoding.{machine_of}
 use Rattle.table.specs.declared.answer.Kind.TheVariants.{Short}

@@ -7,7 +7,7 @@ use Rattle.automaton.specs.Words.{steps, ends}
 use Rattle.table.specs.declared.answer.Kind.TheVariants.{Asked}
 use Rattle.table.specs.declared.answer.Refusal.{Refusal}
 use Rattle.table.specs.Answers.{Said, gives, refusal}
-use Rattle.table.specs.Judging.{◌andThen◌, refuse, judged, signs_of}
+use Rattle.table.specs.Judging.{◌and_then◌, refuse, judged, signs_of}
 use Rattle.table.specs.Encoding.{machine_of}
 use Rattle.running.specs.Plan.{plan1, spelled}
 use Rattle.running.specs.declared.words.Ran.{Ran}

@@ -11,7 +11,7 @@ use lib.ListN.{length, set, length-set}
 use lib.Seq.{get_or-set_other}
 use Rattle.counting.specs.Lists.{at}
 use Rattle.counting.proofs.Tallies.{count_cong, count_more}
-use Rattle.lending.proofs.Memories.{set-each}
+use Rattle.lending.proofs.Memories.{set_each}
 use Rattle.seeking.specs.Links.{Low, roots, Climbed, Together, Linked, Joined}
 
 pub climbed_none : (n x : ℕ) (w : List ℕ) → Low n w → x < n → Climbed n x w w x
@@ -30,12 +30,12 @@ pub climbed_more : (n x : ℕ) (before w : List ℕ) (r : ℕ) → n ≤ length 
 climbed_more n x before w r room c u = record {
   long = length-set w r over ∙ c.long;
   within = omega (arith, c.within, up_low, over_low);
-  low = set-each (λ z v. v ≤ z) w r over n stored (omega (arith, up_low, over_low)) (λ z l d. c.low z l);
-  same = set-each (λ z v. eqb v z ≡ eqb (at before z) z) w r over n stored (ne_eqb over r (omega (arith, up_low, over_low, u)) ∙ sym (ne_eqb (at w r) r u) ∙ c.same r c.within) (λ z l d. c.same z l);
+  low = set_each (λ z v. v ≤ z) w r over n stored (omega (arith, up_low, over_low)) (λ z l d. c.low z l);
+  same = set_each (λ z v. eqb v z ≡ eqb (at before z) z) w r over n stored (ne_eqb over r (omega (arith, up_low, over_low, u)) ∙ sym (ne_eqb (at w r) r u) ∙ c.same r c.within) (λ z l d. c.same z l);
   constant = λ g h.
       let k = c.constant g h in
       let same : g over ≡ g r = k.0 (at w r) (omega (arith, c.within, up_low)) ∙ k.0 r c.within in
-      (set-each (λ z v. g v ≡ g z) w r over n stored same (λ z l d. k.0 z l), same ∙ k.1);
+      (set_each (λ z v. g v ≡ g z) w r over n stored same (λ z l d. k.0 z l), same ∙ k.1);
   beyond = λ i l. get_or-set_other w r i over 0 (omega (arith, c.within)) ∙ c.beyond i l;
 }
   where
@@ -78,19 +78,19 @@ module _ (n x y : ℕ) (before w after : List ℕ) (one other : ℕ) (first : Cl
   unfolding roots
   joined_now a b room l h root links = record {
     long = length-set after a b ∙ second.long ∙ first.long;
-    low = set-each (λ z v. v ≤ z) after a b n (omega arith) (omega arith) (λ z m d. second.low z m);
+    low = set_each (λ z v. v ≤ z) after a b n (omega arith) (omega arith) (λ z m d. second.low z m);
     fewer =
         omega (
           arith,
           roots_same,
           count_more n (λ z. eqb (at (set after a b) z) z) (λ z. eqb (at after z) z)
-              (set-each (λ z v. eqb v z ≡ true → eqb (at after z) z ≡ true) after a b n (omega arith) (λ e. eq-eqb (at after a) a root) (λ z m d e. e))
-              a l (set-each (λ z v. z ≡ a → eqb v z ≡ false) after a b n (omega arith) (λ e. ne_eqb b a (omega arith)) (λ z m d e. absurd (d e)) a l refl) (eq-eqb (at after a) a root),
+              (set_each (λ z v. eqb v z ≡ true → eqb (at after z) z ≡ true) after a b n (omega arith) (λ e. eq-eqb (at after a) a root) (λ z m d e. e))
+              a l (set_each (λ z v. z ≡ a → eqb v z ≡ false) after a b n (omega arith) (λ e. ne_eqb b a (omega arith)) (λ z m d e. absurd (d e)) a l refl) (eq-eqb (at after a) a root),
         );
     constant = λ g c e.
         let k = first.constant g c in
         let m = second.constant g k.0 in
-        set-each (λ z v. g v ≡ g z) after a b n (omega arith) (links g (k.1 ∙ e ∙ sym m.1)) (λ z l d. m.0 z l);
+        set_each (λ z v. g v ≡ g z) after a b n (omega arith) (links g (k.1 ∙ e ∙ sym m.1)) (λ z l d. m.0 z l);
     beyond = λ i m. get_or-set_other after a i b 0 (omega arith) ∙ second.beyond i m ∙ first.beyond i m;
   }
 

@@ -14,7 +14,7 @@ use Rattle.counting.specs.Lists.{at}
 use Rattle.counting.specs.Counts.{all}
 use Rattle.counting.proofs.Cases.{by_test}
 use Rattle.counting.proofs.Tallies.{all_iff, all_false, count_cong}
-use Rattle.lending.proofs.Memories.{columns-apart}
+use Rattle.lending.proofs.Memories.{columns_apart}
 use Rattle.automaton.specs.Machine.{Machine, Lawful}
 use Rattle.automaton.specs.Words.{Word, steps, ends}
 use Rattle.automaton.proofs.Walks.{steps-append, steps_in}
@@ -166,7 +166,7 @@ module _ (L R : Machine) (lawful : Lawful L) (lawful-too : Lawful R) (offset n :
 
         pub listed_column : (c i : ℕ) → i < pairs → at after (suc c * n + i) ≡ at work (suc c * n + i)
         listed_column c i l =
-            let other : (d : ℕ) → suc c * n + i ≢ d * n + pairs = λ d. columns-apart n (suc c) d i pairs (omega (arith, place_in)) place_in (omega arith) in
+            let other : (d : ℕ) → suc c * n + i ≢ d * n + pairs = λ d. columns_apart n (suc c) d i pairs (omega (arith, place_in)) place_in (omega arith) in
             listed_other n pairs x y head sign w room place_in (suc c * n + i) (other 1) (other 2) (other 3) (other 4) ∙ t.beyond (suc c * n + i) (in_column n c i)
 
         columns : (i : ℕ) → i < pairs → (from_of n work i ≡ from_of n after i) × (by_of n work i ≡ by_of n after i)

@@ -1,6 +1,10 @@
 // Theory: the shortest word that leads to a goal, first in sign order, found by a search that goes through its nodes and signs in order.
 #![tactic(auto)]
 
-pub fn zero() -> usize {
+ghost use Rattle.std.specs.Prelude.{◌≡◌};
+
+pub fn zero() -> usize
+    ensures { result ≡ 0 }
+{
     0
 }

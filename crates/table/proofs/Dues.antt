@@ -10,24 +10,24 @@ use lib.ListN.{length, get_or}
 use Rattle.counting.specs.Least.{pick}
 use Rattle.lending.specs.Pairs.{pair_at}
 use Rattle.table.specs.Answers.{gives, refuses}
-use Rattle.table.specs.Judging.{◌andThen◌, refuse, field_due}
+use Rattle.table.specs.Judging.{◌and_then◌, refuse, field_due}
 use Rattle.table.specs.Rows.{Whole, Cut, head, body}
 
 module _ (file : List ℕ) (at tag size : ℕ) where
   pub no_head : length file < at + 3 → field_due file at tag size ≡ refuses 1 (length file)
-  unfolding field_due refuse pick ◌andThen◌
+  unfolding field_due refuse pick ◌and_then◌
   no_head h = rw (lt-ltb _ _ h)
 
   pub wrong_tag : at + 3 ≤ length file → get_or file at 0 ≢ tag → field_due file at tag size ≡ refuses 2 at
-  unfolding field_due refuse pick ◌andThen◌
+  unfolding field_due refuse pick ◌and_then◌
   wrong_tag h t = rw (le-ltb _ _ h, ne_eqb _ _ t)
 
   pub wrong_size : at + 3 ≤ length file → get_or file at 0 ≡ tag → pair_at file (at + 1) ≢ size → field_due file at tag size ≡ refuses 4 (at + 1)
-  unfolding field_due refuse pick ◌andThen◌
+  unfolding field_due refuse pick ◌and_then◌
   wrong_size h t s = rw (le-ltb _ _ h, eq-eqb _ _ t, ne_eqb _ _ s)
 
   pub no_body : at + 3 ≤ length file → get_or file at 0 ≡ tag → pair_at file (at + 1) ≡ size → length file < at + 3 + size → field_due file at tag size ≡ refuses 1 (length file)
-  unfolding field_due refuse pick ◌andThen◌
+  unfolding field_due refuse pick ◌and_then◌
   no_body h t s b = rw (le-ltb _ _ h, eq-eqb _ _ t, eq-eqb _ _ s, lt-ltb _ _ b)
 
   pub cut : Cut file at tag size → field_due file at tag size ≡ refuses 1 (length file)
@@ -35,7 +35,7 @@ module _ (file : List ℕ) (at tag size : ℕ) where
   cut (body h t s b) = no_body h t s b
 
   pub whole : Whole file at tag size → field_due file at tag size ≡ gives ((at + 3) ∷ size ∷ [])
-  unfolding field_due refuse pick ◌andThen◌
+  unfolding field_due refuse pick ◌and_then◌
   whole w = rw (le-ltb _ _ w.headed, eq-eqb _ _ w.tagged, eq-eqb _ _ w.sized, le-ltb _ _ w.bodied)
 
   -- how a due field comes out

@@ -11,7 +11,7 @@ use Rattle.counting.specs.Least.{least}
 use Rattle.counting.proofs.Leasts.{least_is, IsLeast}
 use Rattle.lending.specs.Pairs.{pair_at}
 use Rattle.table.specs.Answers.{Said, gives, refuses}
-use Rattle.table.specs.Judging.{◌andThen◌, refuse, field_due, sizes_due, marks_due, nexts_due, judged, outside, bad_mark, bad_next, states_of, signs_of, start_of, end_of}
+use Rattle.table.specs.Judging.{◌and_then◌, refuse, field_due, sizes_due, marks_due, nexts_due, judged, outside, bad_mark, bad_next, states_of, signs_of, start_of, end_of}
 use Rattle.table.specs.Rows.{Whole, SizesRight, MarksRight, NextsRight, Right, Due, first, second, third, Given}
 use Rattle.table.proofs.Chains.{stops, goes_on, refused, passed}
 use Rattle.table.proofs.Dues.{cut, wrong_tag, wrong_size, whole, Outcome, is_cut, other_tag, other_size, is_whole, outcome}

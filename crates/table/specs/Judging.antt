@@ -4,9 +4,9 @@ use Rattle.counting.specs.Least.{pick, least}
 use Rattle.lending.specs.Pairs.{pair_at}
 use Rattle.table.specs.Answers.{Said, gives, refuses}
 
-infixr 20 ◌andThen◌
+infixr 20 ◌and_then◌
 -- the first refusal stands; where there is none, the last answer
-unfoldable pub ◌andThen◌ : Said → Said → Said
+unfoldable pub ◌and_then◌ : Said → Said → Said
 gives vs and_then rest = rest
 refuses number place and_then rest = refuses number place
 

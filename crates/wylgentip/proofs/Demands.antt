@@ -17,7 +17,7 @@ use Rattle.automaton.proofs.Settling.{classes_same}
 use Rattle.automaton.proofs.Tellings.{telling_alike, telling_apart}
 use Rattle.refining.specs.Lists.{ill_formed}
 use Rattle.table.specs.Answers.{Said, gives, refuses, when_given}
-use Rattle.table.specs.Judging.{◌andThen◌, refuse, judged, states_of, signs_of}
+use Rattle.table.specs.Judging.{◌and_then◌, refuse, judged, states_of, signs_of}
 use Rattle.table.specs.Rows.{Right}
 use Rattle.table.specs.Encoding.{machine_of}
 use Rattle.table.specs.Leaving.{refusing}
@@ -38,13 +38,13 @@ use Rattle.wylgentip.specs.Demands.{Nothing, Else, OfFile, signs_told, Refuses, 
 use Rattle.wylgentip.proofs.Listed.{Lists, less, most, either, lists_nothing, lists_else, lists_file, refuses_nothing, refuses_else, refuses_short, refuses_file}
 
 -- the answers of running
-and_then : (s t : Said) → when_given s t s ≡ s and_then t
-unfolding ◌andThen◌ when_given
-and_then (gives vs) t = refl
-and_then (refuses m p) t = refl
+given_then : (s t : Said) → when_given s t s ≡ s and_then t
+unfolding ◌and_then◌ when_given
+given_then (gives vs) t = refl
+given_then (refuses m p) t = refl
 
 refuse_then : (t : Bool) (m p : ℕ) (s : Said) → pick t (refuses m p) s ≡ refuse t m p and_then s
-unfolding ◌andThen◌ refuse pick
+unfolding ◌and_then◌ refuse pick
 refuse_then true m p s = refl
 refuse_then false m p s = refl
 
@@ -52,14 +52,14 @@ word_lists : (file word : List ℕ) → Lists (OfFile file (Else (bad_sign (sign
 unfolding ran_word
 word_lists file word =
     let i = bad_sign (signs_of file) word in
-    subst (Lists _) (ap (λ (s : Said). when_given (judged file) s (judged file)) (refuse_then (ltb i (length word)) 10 i _) ∙ and_then (judged file) _)
+    subst (Lists _) (ap (λ (s : Said). when_given (judged file) s (judged file)) (refuse_then (ltb i (length word)) 10 i _) ∙ given_then (judged file) _)
     (lists_file _ (lists_else _ (lists_nothing _) (ltb i (length word)) 10 i (less i (length word))) file)
 
 line_lists : (file line : List ℕ) → Lists (OfFile file (Else (signs_of file ≢ 47) 9 0 Nothing)) (ran_line file line)
 unfolding ran_line
 line_lists file line =
     let t = not (eqb (signs_of file) 47) in
-    subst (Lists _) (ap (λ (s : Said). when_given (judged file) s (judged file)) (refuse_then t 9 0 _) ∙ and_then (judged file) _)
+    subst (Lists _) (ap (λ (s : Said). when_given (judged file) s (judged file)) (refuse_then t 9 0 _) ∙ given_then (judged file) _)
     (lists_file _ (lists_else _ (lists_nothing _) t 9 0 (other (signs_of file) 47)) file)
   where
     other : (a b : ℕ) → (not (eqb a b) ≡ true) ↔ (a ≢ b)

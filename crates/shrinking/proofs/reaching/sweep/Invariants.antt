@@ -1,0 +1,15 @@
+-- `shrinking::reaching::sweep` meets its contract. The loop's invariant: the sweep over the first q states.
+use Prim.Native.Nat.{◌≤◌, ◌-◌}
+use mathlib.Core.List.{[]}
+use Rattle.table.specs.Encoding.{machine_in}
+use Rattle.table.proofs.Handing.{held_lawful}
+use Rattle.shrinking.proofs.Sweeping.{Sweeping, sweep_none, sweep_more, sweep_done}
+use native.Mathlib.Omega.{arith}
+use Rattle.shrinking.proofs.reaching.sweep.Given as goal
+
+abbrev pub invariant-loop-q : goal.invariant-loop-q
+invariant-loop-q l =
+    (l.q ≤ l.sizes.states) × Sweeping (machine_in l.sizes.states l.sizes.signs l.sizes.start [] l.nexts) l.q l.initial.work l.work l.new
+
+abbrev pub decreases-loop-q : goal.decreases-loop-q
+decreases-loop-q l = l.sizes.states - l.q

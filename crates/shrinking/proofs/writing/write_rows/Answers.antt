@@ -1,0 +1,77 @@
+-- `shrinking::writing::write_rows` meets its contract. The loop's invariant: the next states of the first i rows are written.
+use Prim.Native.Nat.{ℕ, ◌+◌, ◌*◌, ◌≤◌, ◌-◌}
+use mathlib.Core.Path.{◌≡◌, refl, ap, ◌∙◌}
+use mathlib.Core.List.{List, []}
+use lib.ListN.{length, length-set}
+use lib.Seq.{sets, length-sets}
+use Rattle.table.specs.Encoding.{machine_in, Held}
+use Rattle.shrinking.specs.Written.{Writable, rows_bytes}
+use Rattle.shrinking.proofs.Stores.{rows_none, rows_more, rows-length, field_stored, rows_most}
+use native.Mathlib.Omega.{arith}
+use borrow.Author.Rules.{rules}
+use Rattle.shrinking.proofs.writing.write_rows.Goals as goal
+
+-- all numbers are small
+below : (n k start : ℕ) (nexts work : List ℕ) (rows : ℕ) → Held n k start nexts → Writable (machine_in n k start [] nexts) rows work → (rows ≤ 1024) × (rows * k ≤ 32000)
+below n k start nexts work rows h w = (omega (arith, w.most, h.range.states_most), rows_most n k start nexts work rows h w)
+
+pub overflow_add-tag : goal.overflow_add-tag
+overflow_add-tag c = omega (arith, (below _ _ _ _ _ _ c.requires.held c.requires.writable).0)
+
+pub bounds-out-tag : goal.bounds-out-tag
+bounds-out-tag c = omega (arith, c.requires.room)
+
+pub overflow_add-tag-2 : goal.overflow_add-tag-2
+overflow_add-tag-2 c = omega (arith, (below _ _ _ _ _ _ c.requires.held c.requires.writable).0)
+
+pub overflow_mul-rows : goal.overflow_mul-rows
+overflow_mul-rows c = omega (arith, (below _ _ _ _ _ _ c.requires.held c.requires.writable).1)
+
+pub overflow_mul-rows-2 : goal.overflow_mul-rows-2
+overflow_mul-rows-2 c = omega (arith, (below _ _ _ _ _ _ c.requires.held c.requires.writable).1)
+
+pub put_pair-requires : goal.put_pair-requires
+put_pair-requires c = (simp length-set (omega (arith, c.requires.room)), omega (arith, (below _ _ _ _ _ _ c.requires.held c.requires.writable).1))
+
+pub loop-i-init : goal.loop-i-init
+loop-i-init c = (omega arith, refl, rows_none _ _ _ _ _ _)
+
+pub write_row-requires : goal.write_row-requires
+write_row-requires c =
+    let b = c in
+    let l = c.loop-i in
+    let k : length c.put_pair.new.out ≡ length c.args.out.now = ap length c.put_pair.ensures ∙ simp length-set in
+    record { held = b.requires.held; writable = b.requires.writable; row = c.loop-i-test.true; room = omega (arith, l.invariant.1, b.requires.room) }
+
+pub overflow_add-i : goal.overflow_add-i
+overflow_add-i c =
+    let b = c in
+    omega (arith, c.loop-i-test.true, b.requires.writable.most, b.requires.held.range.states_most)
+
+pub loop-i-smaller : goal.loop-i-smaller
+loop-i-smaller c = omega (arith, c.loop-i-test.true)
+
+pub loop-i-preserved : goal.loop-i-preserved
+loop-i-preserved c =
+    let a = c.args in
+    let z = a.sizes in
+    let l = c.loop-i in
+    let o = c.put_pair.new.out in
+    let e : c.write_row.new.out ≡ sets o (12 + a.rows + 3) (rows_bytes z.states z.signs a.nexts.now a.work.now (l.i + 1)) =
+    c.write_row.ensures ∙ rows_more z.states a.work.now o z.signs a.nexts.now (12 + a.rows + 3) l.i l.out l.invariant.2
+    in (
+      omega (arith, c.loop-i-test.true),
+      ap length e ∙ length-sets o (12 + a.rows + 3) (rows_bytes z.states z.signs a.nexts.now a.work.now (l.i + 1)),
+      e,
+    )
+
+pub returns : goal.returns
+returns c =
+    let l = c.loop-i in
+    let a = c.args in
+    let z = a.sizes in
+    let o = c.put_pair.new.out in
+    let e : l.i ≡ a.rows = omega arith in
+    let body = rows_bytes z.states z.signs a.nexts.now a.work.now a.rows in
+    field_stored a.out.now body (12 + a.rows) _ o l.out (rows-length z.states a.work.now a.out.now z.signs a.nexts.now a.rows) c.put_pair.ensures
+    (l.invariant.2 ∙ ap (λ (i : ℕ). sets o (12 + a.rows + 3) (rows_bytes z.states z.signs a.nexts.now a.work.now i)) e)

@@ -1,0 +1,13 @@
+-- `splitting::copies::copy_in` meets its contract. The loop's invariant: the first x numbers are put in, and all else is as it was.
+use Prim.Native.Nat.{ℕ, ◌≤◌, ◌-◌}
+use mathlib.Core.Path.{◌≡◌, subst}
+use native.Mathlib.Omega.{arith}
+use Rattle.splitting.specs.Running.{PutIn}
+use Rattle.splitting.proofs.Copying.{put_none, put_more}
+use Rattle.splitting.proofs.copies.copy_in.Given as goal
+
+abbrev pub invariant-loop-x : goal.invariant-loop-x
+invariant-loop-x l = (l.x ≤ l.n) × PutIn l.list l.place l.x l.initial.work l.work
+
+abbrev pub decreases-loop-x : goal.decreases-loop-x
+decreases-loop-x l = l.n - l.x

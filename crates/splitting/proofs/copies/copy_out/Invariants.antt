@@ -1,0 +1,12 @@
+-- `splitting::copies::copy_out` meets its contract. The loop's invariant: the first x numbers are copied, and the rest is as it was.
+use Prim.Native.Nat.{ℕ, ◌≤◌, ◌-◌}
+use mathlib.Core.Path.{◌≡◌, subst}
+use native.Mathlib.Omega.{arith}
+use Rattle.splitting.proofs.Copying.{Copied, copied_none, copied_more, copied_all}
+use Rattle.splitting.proofs.copies.copy_out.Given as goal
+
+abbrev pub invariant-loop-x : goal.invariant-loop-x
+invariant-loop-x l = (l.x ≤ l.n) × Copied l.work l.place l.x l.initial.list l.list
+
+abbrev pub decreases-loop-x : goal.decreases-loop-x
+decreases-loop-x l = l.n - l.x

@@ -1,0 +1,13 @@
+-- `splitting::parts::adopt` meets its contract. The loop's invariant: the first x names are taken over, and the rest is as it was.
+use Prim.Native.Nat.{ℕ, ◌≤◌, ◌-◌}
+use mathlib.Core.Path.{◌≡◌, subst}
+use native.Mathlib.Omega.{arith}
+use Rattle.splitting.specs.Parts.{Adopted}
+use Rattle.splitting.proofs.Adopting.{adopted_none, adopted_more}
+use Rattle.splitting.proofs.parts.adopt.Given as goal
+
+abbrev pub invariant-loop-x : goal.invariant-loop-x
+invariant-loop-x l = (l.x ≤ l.n) × Adopted l.n l.x l.initial.work l.work
+
+abbrev pub decreases-loop-x : goal.decreases-loop-x
+decreases-loop-x l = l.n - l.x

@@ -1,0 +1,17 @@
+-- `splitting::runs::first_waiting` meets its contract. The loop's invariant: the states passed don't wait.
+use Prim.Native.Nat.{ℕ, ◌≤◌, ◌<◌, ◌-◌}
+use mathlib.Core.Path.{◌≡◌, sym, ap, ◌∙◌}
+use mathlib.Core.Bool.{false, not}
+use native.Mathlib.Omega.{arith}
+use borrow.Author.Count.{below_more}
+use borrow.Author.Tests.{eq-eqb, ne_eqb}
+use lib.Dec.{eqb}
+use Rattle.counting.proofs.Leasts.{least_first, least_none}
+use Rattle.splitting.specs.Work.{pending_of}
+use Rattle.splitting.proofs.runs.first_waiting.Given as goal
+
+abbrev pub invariant-loop-q : goal.invariant-loop-q
+invariant-loop-q l = (l.q ≤ l.n) × ((p : ℕ) → p < l.q → not (eqb (pending_of l.n l.work p) 0) ≡ false)
+
+abbrev pub decreases-loop-q : goal.decreases-loop-q
+decreases-loop-q l = l.n - l.q

@@ -1,0 +1,20 @@
+-- `table::reading::first_bad_mark` meets its contract. The loop's invariant: the marks passed are 0 or 1.
+use mathlib.Core.Path.{sym}
+use native.Mathlib.Omega.{arith}
+use borrow.Author.Count.{below_none, below_more}
+use borrow.Author.Tests.{lt-ltb, le-ltb}
+use Rattle.counting.proofs.Leasts.{least_first, least_unique}
+use Rattle.table.proofs.reading.first_bad_mark.Goals as goal
+
+pub loop-q-init : goal.loop-q-init
+loop-q-init c = (omega arith, below_none _)
+
+pub returns-then-marks-q-gt1 : goal.returns-then-marks-q-gt1
+returns-then-marks-q-gt1 c = sym (least_first _ _ _ c.loop-q-test.true (lt-ltb _ _ c.if-marks-q-gt1.true) c.loop-q.invariant.1)
+
+pub loop-q-preserved : goal.loop-q-preserved
+loop-q-preserved c = (omega arith, below_more _ _ c.loop-q.invariant.1 (le-ltb _ _ c.if-marks-q-gt1.false))
+
+pub returns : goal.returns
+returns c =
+    sym (least_unique _ _ _ (record { within = omega arith; before = c.loop-q.invariant.1; holds = λ h. absurd (omega arith) }))

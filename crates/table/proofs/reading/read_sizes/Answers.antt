@@ -1,0 +1,47 @@
+-- `table::reading::read_sizes` meets its contract: each `return` is one of the ways out of field 1.
+use mathlib.Core.Path.{sym, ap, ap₂, ◌∙◌}
+use native.Mathlib.Omega.{arith}
+use Rattle.table.specs.Answers.{refusal, refusal_of}
+use Rattle.table.specs.Judging.{outside}
+use Rattle.table.proofs.Ways.{sizes_cut, sizes_range, sizes_start, sizes_good}
+use Rattle.table.proofs.Openings.{opened, closed}
+use Rattle.table.proofs.reading.read_sizes.Goals as goal
+
+pub returns-in_default : goal.returns-in_default
+returns-in_default c =
+    let e = c.in_default.is in
+    ap refusal (c.refusal_of.ensures ∙ ap refusal_of e)
+    ∙ sym (sizes_cut c.args.file.now (closed e c.read_field-first.ensures))
+
+pub pair_at-states-requires : goal.pair_at-states-requires
+pair_at-states-requires c = omega (arith, (opened c.in-Field.is c.read_field-first.ensures).stands.bodied)
+
+pub pair_at-signs-requires : goal.pair_at-signs-requires
+pair_at-signs-requires c = omega (arith, (opened c.in-Field.is c.read_field-first.ensures).stands.bodied)
+
+pub pair_at-start-requires : goal.pair_at-start-requires
+pair_at-start-requires c = omega (arith, (opened c.in-Field.is c.read_field-first.ensures).stands.bodied)
+
+-- in each of the three: that field 1 stands whole, and what the test of the ranges was of
+pub returns-then-outside : goal.returns-then-outside
+returns-then-outside c =
+    let w = (opened c.in-Field.is c.read_field-first.ensures).stands in
+    let t = ap₂ outside (sym c.pair_at-states.ensures.value) (sym c.pair_at-signs.ensures.value) ∙ sym c.is_outside-outside.ensures in
+    sym (sizes_range c.args.file.now w (t ∙ c.if-outside.true))
+
+pub returns-then-states-start : goal.returns-then-states-start
+returns-then-states-start c =
+    let w = (opened c.in-Field.is c.read_field-first.ensures).stands in
+    let t = ap₂ outside (sym c.pair_at-states.ensures.value) (sym c.pair_at-signs.ensures.value) ∙ sym c.is_outside-outside.ensures in
+    sym
+    (sizes_start c.args.file.now w (t ∙ c.if-outside.false)
+    (rw (c.pair_at-states.ensures.value, c.pair_at-start.ensures.value) at c.if-states-start.true))
+
+pub returns : goal.returns
+returns c =
+    let w = (opened c.in-Field.is c.read_field-first.ensures).stands in
+    let t = ap₂ outside (sym c.pair_at-states.ensures.value) (sym c.pair_at-signs.ensures.value) ∙ sym c.is_outside-outside.ensures in
+    rw (c.pair_at-states.ensures.value, c.pair_at-signs.ensures.value, c.pair_at-start.ensures.value)
+    (sym
+    (sizes_good c.args.file.now w (t ∙ c.if-outside.false)
+    (rw (c.pair_at-states.ensures.value, c.pair_at-start.ensures.value) at c.if-states-start.false)))
