@@ -13,7 +13,7 @@ use Rattle.lending.specs.Pairs.{pair_at, pair}
 -- what stands in a list from a place on
 pub pair-drop : (n : ℕ) (s : List ℕ) (i : ℕ) → pair_at s (n + i) ≡ pair_at (drop n s) i
 unfolding pair_at
-pair-drop n s i = sym (ap₂ (λ (x y : ℕ). x * 256 + y) (get_or-drop n s i 0) (get_or-drop n s (i + 1) 0 ∙ ap (λ (j : ℕ). get_or s j 0) (sym (add_assoc n i 1))))
+pair-drop n s i = rw (get_or-drop n s i 0, get_or-drop n s (i + 1) 0, ← add_assoc n i 1)
 
 -- a number stands where its two bytes do
 pub pair_read : (x : ℕ) (s : List ℕ) (i : ℕ) → get_or s i 0 ≡ get_or (pair x) 0 0 → get_or s (i + 1) 0 ≡ get_or (pair x) 1 0 → pair_at s i ≡ x

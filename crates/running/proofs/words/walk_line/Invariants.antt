@@ -11,8 +11,8 @@ use Rattle.running.proofs.words.walk_line.Given as goal
 abbrev pub invariant-loop-i : goal.invariant-loop-i
 invariant-loop-i l =
     (l.i ≤ length l.line)
-    × ((n : ℕ) → l.state ≡ steps (machine_in n l.signs l.initial.state [] l.nexts) l.initial.state (take l.i (spelled l.plan l.line)))
-    × ((n : ℕ) → Held n l.signs l.initial.state l.nexts → l.state < n)
+    × ((n : ℕ) → l.state ≡ steps (machine_in n l.signs l.fn.sizes.start [] l.nexts) l.fn.sizes.start (take l.i (spelled l.plan l.line)))
+    × ((n : ℕ) → Held n l.signs l.fn.sizes.start l.nexts → l.state < n)
 
 abbrev pub decreases-loop-i : goal.decreases-loop-i
 decreases-loop-i l = length l.line - l.i

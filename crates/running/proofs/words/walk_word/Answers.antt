@@ -29,7 +29,7 @@ unfolding bad_sign
 returns-then-signs-a c =
     let l = c.loop-i in
     let t = c.loop-i-test.true in
-    sym (walk_strange _ _ l.i (least_first _ _ l.i t (le-leb _ _ c.if-signs-a.true) l.invariant.1) t)
+    sym (walk_strange _ _ l.i (least_first _ _ l.i t (le-leb _ _ (omega arith)) l.invariant.1) t)
 
 pub next_of-q-requires : goal.next_of-q-requires
 next_of-q-requires c =

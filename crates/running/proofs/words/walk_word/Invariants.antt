@@ -14,8 +14,8 @@ abbrev pub invariant-loop-i : goal.invariant-loop-i
 invariant-loop-i l =
     (l.i ≤ length l.word)
     × ((j : ℕ) → j < l.i → leb l.signs (at l.word j) ≡ false)
-    × ((n : ℕ) → l.q ≡ steps (machine_in n l.signs l.initial.q [] l.nexts) l.initial.q (take l.i l.word))
-    × ((n : ℕ) → Held n l.signs l.initial.q l.nexts → l.q < n)
+    × ((n : ℕ) → l.q ≡ steps (machine_in n l.signs l.fn.sizes.start [] l.nexts) l.fn.sizes.start (take l.i l.word))
+    × ((n : ℕ) → Held n l.signs l.fn.sizes.start l.nexts → l.q < n)
 
 abbrev pub decreases-loop-i : goal.decreases-loop-i
 decreases-loop-i l = length l.word - l.i

@@ -10,10 +10,10 @@ pub loop-q-init : goal.loop-q-init
 loop-q-init c = (omega arith, below_none _)
 
 pub returns-then-marks-q-gt1 : goal.returns-then-marks-q-gt1
-returns-then-marks-q-gt1 c = sym (least_first _ _ _ c.loop-q-test.true (lt-ltb _ _ c.if-marks-q-gt1.true) c.loop-q.invariant.1)
+returns-then-marks-q-gt1 c = sym (least_first _ _ _ c.loop-q-test.true (lt-ltb _ _ (omega arith)) c.loop-q.invariant.1)
 
 pub loop-q-preserved : goal.loop-q-preserved
-loop-q-preserved c = (omega arith, below_more _ _ c.loop-q.invariant.1 (le-ltb _ _ c.if-marks-q-gt1.false))
+loop-q-preserved c = (omega arith, below_more _ _ c.loop-q.invariant.1 (le-ltb _ _ (omega arith)))
 
 pub returns : goal.returns
 returns c =

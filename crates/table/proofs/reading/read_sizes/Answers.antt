@@ -1,5 +1,6 @@
 -- `table::reading::read_sizes` meets its contract: each `return` is one of the ways out of field 1.
-use mathlib.Core.Path.{sym, ap, ap₂, ◌∙◌}
+use mathlib.Core.Path.{◌≡◌, sym, ap, ap₂, ◌∙◌}
+use mathlib.Core.Bool.{false}
 use native.Mathlib.Omega.{arith}
 use Rattle.table.specs.Answers.{refusal, refusal_of}
 use Rattle.table.specs.Judging.{outside}
@@ -33,15 +34,13 @@ pub returns-then-states-start : goal.returns-then-states-start
 returns-then-states-start c =
     let w = (opened c.in-Field.is c.read_field-first.ensures).stands in
     let t = ap₂ outside (sym c.pair_at-states.ensures.value) (sym c.pair_at-signs.ensures.value) ∙ sym c.is_outside-outside.ensures in
-    sym
-    (sizes_start c.args.file.now w (t ∙ c.if-outside.false)
-    (rw (c.pair_at-states.ensures.value, c.pair_at-start.ensures.value) at c.if-states-start.true))
+    let o : c.is_outside-outside.result ≡ false = cc in
+    sym (sizes_start c.args.file.now w (t ∙ o) (omega (arith, c.pair_at-states.ensures.value, c.pair_at-start.ensures.value)))
 
 pub returns : goal.returns
 returns c =
     let w = (opened c.in-Field.is c.read_field-first.ensures).stands in
     let t = ap₂ outside (sym c.pair_at-states.ensures.value) (sym c.pair_at-signs.ensures.value) ∙ sym c.is_outside-outside.ensures in
+    let o : c.is_outside-outside.result ≡ false = cc in
     rw (c.pair_at-states.ensures.value, c.pair_at-signs.ensures.value, c.pair_at-start.ensures.value)
-    (sym
-    (sizes_good c.args.file.now w (t ∙ c.if-outside.false)
-    (rw (c.pair_at-states.ensures.value, c.pair_at-start.ensures.value) at c.if-states-start.false)))
+    (sym (sizes_good c.args.file.now w (t ∙ o) (omega (arith, c.pair_at-states.ensures.value, c.pair_at-start.ensures.value))))
