@@ -1,16 +1,10 @@
 -- `splitting::starts::fill_pending` meets its contract. The loop's invariant: the pending of the states before q is written, and it is known whether one of them has the mark due.
-use Prim.Native.Nat.{ℕ, ◌≤◌, ◌-◌}
-use mathlib.Core.Path.{◌≡◌, refl, sym, ap, ap₂, subst, ◌∙◌}
-use mathlib.Core.Logic.{⊎_elim}
-use mathlib.Core.Bool.{Bool, not, ◌&&◌, ◌||◌}
-use native.Mathlib.Numerals.{add-one}
+use Prim.Native.Nat.{◌≤◌, ◌-◌}
+use mathlib.Core.Path.{◌≡◌}
 use lib.Dec.{eqb}
 use Rattle.counting.specs.Lists.{at}
-use Rattle.counting.specs.Least.{pick}
 use Rattle.counting.specs.Counts.{any}
 use Rattle.splitting.specs.Filling.{Filled}
-use Rattle.splitting.proofs.Pendings.{filled_none, filled_more, waiting_small, is_first}
-use native.Mathlib.Omega.{arith}
 use Rattle.splitting.proofs.starts.fill_pending.Given as goal
 
 abbrev pub invariant-loop-q : goal.invariant-loop-q

@@ -1,146 +1,93 @@
 -- `splitting::taking::take_one` meets its contract: each pass finds what it needs ready, and the passes leave the published take.
-use mathlib.Core.Path.{sym, ◌∙◌}
-use mathlib.Core.Bool.{true≢false}
-use mathlib.Core.List.{[]}
-use Prim.Native.Nat.{◌-◌}
-use Rattle.automaton.specs.Machine.{Machine}
-use Rattle.table.specs.Encoding.{machine_in}
+use mathlib.Core.Path.{◌≡◌}
+use mathlib.Core.Logic.{◌≢◌}
+use mathlib.Core.List.{List, []}
+use Prim.Native.Nat.{ℕ, ◌-◌, ◌<◌}
+use native.Mathlib.Omega.{arith}
+use Rattle.refining.specs.Lists.{WellFormed}
+use Rattle.table.specs.Encoding.{machine_in, Held}
 use Rattle.table.proofs.Handing.{held_lawful}
-use Rattle.splitting.specs.Work.{class_in, pending_in, Taken}
+use Rattle.splitting.specs.Work.{class_in, pending_in, pending_of, lists_in, Ready}
 use Rattle.splitting.proofs.Columns.{looked_most}
 use Rattle.splitting.proofs.Dueness.{Due, due_in, sign_in}
-use Rattle.splitting.proofs.Balances.{count_room, count_classed, count_unled, name_room, name_classed, idle_at, taken_quiet, still_idle, share_room, share-within, share_apart, share-single, taken_split}
-use native.Mathlib.Omega.{arith}
-use borrow.Author.Rules.{rules}
+use Rattle.splitting.proofs.Balances.{count_room, count_classed, name_classed, taken_quiet, share-within, share_apart, share-single, taken_split}
 use Rattle.splitting.proofs.taking.take_one.Goals as goal
 
--- the ways back from one call to the one before it, and to the start
-abbrev began : goal.After-number_at-a → goal.Start
-began c = c
+-- the class taken is due with its sign, which is one less than its pending
+due : (n k start : ℕ) (nexts work : List ℕ) (q r : ℕ)
+    → Held n k start nexts
+    → WellFormed n k (lists_in n work)
+    → Ready n work
+    → (q < n) × (pending_of n work q ≢ 0) × ((p : ℕ) → p < q → pending_of n work p ≡ 0)
+    → r ≡ pending_of n work q
+    → Due (machine_in n k start [] nexts) (class_in n work) (pending_in n work) q (r - 1)
+due n k start nexts work q r held formed ready waits e =
+    due_in (machine_in n k start [] nexts) work q (r - 1) (held_lawful [] held) ready.room formed waits.0 (omega (arith, e, waits.1)) waits.2
 
-abbrev read : goal.After-count_hits-entries → goal.After-number_at-a
-read c = c
+pub count_hits-entries-requires-clause-classed : goal.count_hits-entries-requires-clause-classed
+count_hits-entries-requires-clause-classed c =
+    let z = c.args.sizes in
+    let r = c.requires in
+    count_classed _ _ _ _ (due z.states z.signs z.start c.args.nexts.now c.args.work.now c.args.q c.number_at-a.result r.held r.formed r.ready r.waits c.number_at-a.ensures.value) r.ready
 
-abbrev counted : goal.After-settle_hits-split → goal.After-count_hits-entries
-counted c = c
+pub count_hits-entries-requires-clause-sign : goal.count_hits-entries-requires-clause-sign
+count_hits-entries-requires-clause-sign c =
+    let z = c.args.sizes in
+    let r = c.requires in
+    sign_in _ _ _ _ _ (due z.states z.signs z.start c.args.nexts.now c.args.work.now c.args.q c.number_at-a.result r.held r.formed r.ready r.waits c.number_at-a.ensures.value)
 
-abbrev settled : goal.After-rename → goal.After-settle_hits-split
-settled c = c
+pub settle_hits-split-requires-clause-room : goal.settle_hits-split-requires-clause-room
+settle_hits-split-requires-clause-room c =
+    let z = c.args.sizes in
+    let r = c.requires in
+    let d = due z.states z.signs z.start c.args.nexts.now c.args.work.now c.args.q c.number_at-a.result r.held r.formed r.ready r.waits c.number_at-a.ensures.value in
+    let e = c.count_hits-entries.ensures in
+    (omega (arith, count_room _ _ _ _ d r.ready, e.long), looked_most _ _ _ _ _ _ _ _ e, r.held.range.states_most)
 
-abbrev renamed : goal.After-share → goal.After-rename
-renamed c = c
+pub rename-requires-clause-classed : goal.rename-requires-clause-classed
+rename-requires-clause-classed c =
+    let z = c.args.sizes in
+    let r = c.requires in
+    let d = due z.states z.signs z.start c.args.nexts.now c.args.work.now c.args.q c.number_at-a.result r.held r.formed r.ready r.waits c.number_at-a.ensures.value in
+    name_classed _ _ _ _ d r.ready _ _ _ _ c.count_hits-entries.ensures c.settle_hits-split.ensures
 
-abbrev shared : goal.After-adopt → goal.After-share
-shared c = c
+pub rename-requires-clause-sign : goal.rename-requires-clause-sign
+rename-requires-clause-sign c =
+    let z = c.args.sizes in
+    let r = c.requires in
+    sign_in _ _ _ _ _ (due z.states z.signs z.start c.args.nexts.now c.args.work.now c.args.q c.number_at-a.result r.held r.formed r.ready r.waits c.number_at-a.ensures.value)
 
-abbrev machine : goal.Start → Machine
-machine b = machine_in b.args.sizes.states b.args.sizes.signs b.args.sizes.start [] b.args.nexts.now
+pub share-requires-clause-within : goal.share-requires-clause-within
+share-requires-clause-within c =
+    let z = c.args.sizes in
+    let r = c.requires in
+    let d = due z.states z.signs z.start c.args.nexts.now c.args.work.now c.args.q c.number_at-a.result r.held r.formed r.ready r.waits c.number_at-a.ensures.value in
+    share-within _ _ _ _ d r.ready _ _ _ _ c.count_hits-entries.ensures c.settle_hits-split.ensures _ c.rename.ensures
 
-due : (c : goal.After-number_at-a)
-    → Due (machine (began c)) (class_in (began c).args.sizes.states (began c).args.work.now) (pending_in (began c).args.sizes.states (began c).args.work.now) (began c).args.q (c.number_at-a.result - 1)
-due c =
-    let b = began c in
-    let w = b.pre.1.1.1 in
-    due_in (machine b) b.args.work.now b.args.q (c.number_at-a.result - 1) (held_lawful [] b.pre.0) b.pre.1.1.0.room b.pre.1.0 w.0 (omega (arith, c.number_at-a.ensures.value, w.1)) w.2
+pub share-requires-clause-apart : goal.share-requires-clause-apart
+share-requires-clause-apart c =
+    let z = c.args.sizes in
+    let r = c.requires in
+    let d = due z.states z.signs z.start c.args.nexts.now c.args.work.now c.args.q c.number_at-a.result r.held r.formed r.ready r.waits c.number_at-a.ensures.value in
+    share_apart _ _ _ _ d r.ready _ _ _ _ c.count_hits-entries.ensures c.settle_hits-split.ensures _ c.rename.ensures
 
--- what is left where a class is split, and where none is
-split_taken : (t : goal.After-adopt)
-    → Taken (machine (began (read (counted (settled (renamed (shared t))))))) (began (read (counted (settled (renamed (shared t)))))).args.work.now t.adopt.new.0 (counted (settled (renamed (shared t)))).count_hits-entries.result
-split_taken t =
-    let p = shared t in
-    let m = renamed p in
-    let h = settled m in
-    let k = read (counted h) in
-    taken_split _ _ _ _ (due k) (began k).pre.1.1.0 _ _ _ _ (counted h).count_hits-entries.ensures h.settle_hits-split.ensures _ m.rename.ensures _ _ p.share.ensures t.adopt.ensures
+pub share-requires-clause-single : goal.share-requires-clause-single
+share-requires-clause-single c =
+    let z = c.args.sizes in
+    let r = c.requires in
+    let d = due z.states z.signs z.start c.args.nexts.now c.args.work.now c.args.q c.number_at-a.result r.held r.formed r.ready r.waits c.number_at-a.ensures.value in
+    share-single _ _ _ _ d r.ready _ _ _ _ c.count_hits-entries.ensures c.settle_hits-split.ensures _ c.rename.ensures
 
-quiet_taken : (c : goal.Else-split)
-    → Taken (machine (began (read (counted c)))) (began (read (counted c))).args.work.now c.settle_hits-split.new.0 (counted c).count_hits-entries.result
-quiet_taken c =
-    let h = c in
-    let k = read (counted h) in
-    taken_quiet _ _ _ _ (due k) (began k).pre.1.1.0 _ _ _ _ (counted h).count_hits-entries.ensures h.settle_hits-split.ensures c.if-split.false
+pub returns-then-split-clause-taken : goal.returns-then-split-clause-taken
+returns-then-split-clause-taken c =
+    let z = c.args.sizes in
+    let r = c.requires in
+    let d = due z.states z.signs z.start c.args.nexts.now c.args.work.now c.args.q c.number_at-a.result r.held r.formed r.ready r.waits c.number_at-a.ensures.value in
+    taken_split _ _ _ _ d r.ready _ _ _ _ c.count_hits-entries.ensures c.settle_hits-split.ensures _ c.rename.ensures _ _ c.share.ensures c.adopt.ensures
 
-pub overflow_mul-waits : goal.overflow_mul-waits
-overflow_mul-waits c = omega (arith, c.requires.held.range.states_most)
-
-pub overflow_add-waits : goal.overflow_add-waits
-overflow_add-waits c = omega (arith, c.requires.held.range.states_most, c.requires.waits.0)
-
-pub number_at-a-requires : goal.number_at-a-requires
-number_at-a-requires c =
-    let b = c in
-    omega (arith, b.requires.ready.room, b.requires.waits.0)
-
-pub overflow_sub-a : goal.overflow_sub-a
-overflow_sub-a c = omega (arith, c.number_at-a.ensures.value, (began c).requires.waits.1)
-
-pub overflow_cast-work : goal.overflow_cast-work
-overflow_cast-work c = omega (arith, c.number_at-a.ensures.small)
-
-pub bounds-work-waits : goal.bounds-work-waits
-bounds-work-waits c =
-    let b = began c in
-    omega (arith, b.pre.1.1.0.room, b.pre.1.1.1.0)
-
-pub count_hits-entries-requires : goal.count_hits-entries-requires
-count_hits-entries-requires c =
-    let b = began c in
-    let d = due c in
-    let r = b.pre.1.1.0 in
-    (b.pre.0, (count_classed _ _ _ _ d r, (sign_in _ _ _ _ _ d, (count_room _ _ _ _ d r, count_unled _ _ _ _ d r))))
-
-pub settle_hits-split-requires : goal.settle_hits-split-requires
-settle_hits-split-requires c =
-    let h = c in
-    let b = began (read h) in
-    let e = h.count_hits-entries.ensures in (
-      (
-        omega (arith, count_room _ _ _ _ (due (read h)) b.pre.1.1.0, e.long),
-        looked_most _ _ _ _ _ _ _ _ e,
-        b.pre.0.range.states_most,
-      ),
-      (e.within, e.touched),
-    )
-
-pub rename-requires : goal.rename-requires
-rename-requires c =
-    let h = c in
-    let b = began (read (counted h)) in
-    let d = due (read (counted h)) in
-    let r = b.pre.1.1.0 in
-    let e = (counted h).count_hits-entries.ensures in
-    let u = h.settle_hits-split.ensures in
-    (b.pre.0, (name_classed _ _ _ _ d r _ _ _ _ e u, (sign_in _ _ _ _ _ d, (name_room _ _ _ _ d r _ _ _ _ e u, idle_at _ _ _ _ d r _ _ _ _ e u))))
-
-pub share-requires : goal.share-requires
-share-requires c =
-    let m = c in
-    let h = settled m in
-    let b = began (read (counted h)) in
-    let d = due (read (counted h)) in
-    let r = b.pre.1.1.0 in
-    let e = (counted h).count_hits-entries.ensures in
-    let u = h.settle_hits-split.ensures in
-    let f = m.rename.ensures in (
-      (share_room _ _ _ _ d r _ _ _ _ e u _ f, b.pre.0.range.states_most, b.pre.0.range.signs_most),
-      (share-within _ _ _ _ d r _ _ _ _ e u _ f, (share_apart _ _ _ _ d r _ _ _ _ e u _ f, share-single _ _ _ _ d r _ _ _ _ e u _ f)),
-    )
-
-pub adopt-requires : goal.adopt-requires
-adopt-requires c =
-    let p = c in
-    let m = renamed p in
-    let h = settled m in
-    let b = began (read (counted h)) in
-    (omega (arith, p.share.ensures.long, share_room _ _ _ _ (due (read (counted h))) b.pre.1.1.0 _ _ _ _ (counted h).count_hits-entries.ensures h.settle_hits-split.ensures _ m.rename.ensures), b.pre.0.range.states_most)
-
-pub returns-then-split : goal.returns-then-split
-returns-then-split c =
-    let t = c in
-    record { taken = split_taken t; idle = (λ z i l. absurd (true≢false (sym (renamed (shared t)).if-split.true ∙ z))) }
-
-pub returns-else-split : goal.returns-else-split
-returns-else-split c =
-    let h = c in
-    let k = read (counted h) in
-    record { taken = quiet_taken c; idle = (λ z. still_idle _ _ _ _ (due k) (began k).pre.1.1.0 _ _ _ _ (counted h).count_hits-entries.ensures h.settle_hits-split.ensures) }
+pub returns-else-split-clause-taken : goal.returns-else-split-clause-taken
+returns-else-split-clause-taken c =
+    let z = c.args.sizes in
+    let r = c.requires in
+    let d = due z.states z.signs z.start c.args.nexts.now c.args.work.now c.args.q c.number_at-a.result r.held r.formed r.ready r.waits c.number_at-a.ensures.value in
+    taken_quiet _ _ _ _ d r.ready _ _ _ _ c.count_hits-entries.ensures c.settle_hits-split.ensures c.if-split.false
