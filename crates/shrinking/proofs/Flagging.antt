@@ -26,6 +26,9 @@ pub flagged_not : (n q : ℕ) (w : List ℕ) → at w q ≢ 1 → w ≡ flagged_
 unfolding flagged_by pick
 flagged_not n q w u = rw (ne_eqb (at w q) 1 u) refl
 
+-- both, for the search
+pub ruleset one_state = (flagged-by, flagged_not)
+
 pub flags_none : (n : ℕ) (w : List ℕ) → ((c : ℕ) → c < n → flag_at n w c ≡ 0) → Flagged n 0 w w
 unfolding holds any pick
 flags_none n w h = record { long = refl; flags = h; below = λ i k. refl; beyond = λ i k. refl }

@@ -5,6 +5,7 @@ ghost use Rattle.shrinking.specs.Reached.{flag_at, class_at, flagged_by, Flagged
 use lending::number_at;
 
 // Flags the class of a state that is marked.
+#[tactic(auto, using(crate::proofs::Flagging::one_state))]
 fn flag_class(work: &mut [u16], n: usize, q: usize)
     requires room { (7 * n ≤ length work.old) × (n ≤ 1024) }
     requires within { (q < n) × (class_at n work.old q < n) }

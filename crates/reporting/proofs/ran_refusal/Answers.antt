@@ -1,7 +1,6 @@
 -- `reporting::ran_refusal` meets its contract: each arm is a case of `ran_refusal`.
 use mathlib.Core.Path.{ap, sym}
 use Rattle.reporting.specs.Reports.{ran_refusal}
-use borrow.Author.Rules.{rules}
 use Rattle.reporting.proofs.ran_refusal.Goals as goal
 
 pub returns-in-Made : goal.returns-in-Made

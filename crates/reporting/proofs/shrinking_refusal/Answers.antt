@@ -1,7 +1,6 @@
 -- `reporting::shrinking_refusal` meets its contract: each arm is a case of `shrinking_refusal`.
 use mathlib.Core.Path.{ap, sym}
 use Rattle.reporting.specs.Reports.{shrinking_refusal}
-use borrow.Author.Rules.{rules}
 use Rattle.reporting.proofs.shrinking_refusal.Goals as goal
 
 pub returns-in-Made : goal.returns-in-Made

@@ -1,7 +1,6 @@
 -- `reporting::started_refusal` meets its contract: each arm is a case of `started_refusal`.
 use mathlib.Core.Path.{ap, sym}
 use Rattle.reporting.specs.Reports.{started_refusal}
-use borrow.Author.Rules.{rules}
 use Rattle.reporting.proofs.started_refusal.Goals as goal
 
 pub returns-in-Fresh : goal.returns-in-Fresh

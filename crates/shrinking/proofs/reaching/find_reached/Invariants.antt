@@ -1,17 +1,13 @@
--- `shrinking::reaching::find_reached` meets its contract. The loop's invariant: the start and only reached states are marked; the rest is as it was.
+-- The loop's invariant of `shrinking::reaching::find_reached`: the start and only reached states are marked; the rest is as it was.
 use Prim.Native.Nat.{ℕ, ◌≤◌}
-use mathlib.Core.Path.{◌≡◌, refl, ◌∙◌}
+use mathlib.Core.Path.{◌≡◌}
 use mathlib.Core.List.{[]}
 use lib.Dec.{eqb}
 use lib.ListN.{length}
 use Rattle.counting.specs.Lists.{at}
 use Rattle.counting.specs.Counts.{count}
-use Rattle.lending.proofs.Memories.{cleared-length}
 use Rattle.table.specs.Encoding.{machine_in}
-use Rattle.table.proofs.Handing.{held_lawful}
 use Rattle.shrinking.specs.Reached.{Sound}
-use Rattle.shrinking.proofs.Sweeping.{sound_start, start_long, start_beyond, found_quiet, fewer_unmarked}
-use native.Mathlib.Omega.{arith}
 use Rattle.shrinking.proofs.reaching.find_reached.Given as goal
 
 abbrev pub invariant-loop-sizes : goal.invariant-loop-sizes

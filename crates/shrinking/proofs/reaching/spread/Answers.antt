@@ -11,7 +11,6 @@ use Rattle.table.proofs.Readers.{next_within}
 use Rattle.shrinking.specs.Reached.{Spread}
 use Rattle.shrinking.proofs.Spreading.{spread_none, spread_more}
 use native.Mathlib.Omega.{arith}
-use borrow.Author.Rules.{rules}
 use Rattle.shrinking.proofs.reaching.spread.Goals as goal
 
 -- the place of the next state is in the slice, and it is a state
@@ -39,8 +38,7 @@ number_at-requires c = (inside _ _ _ _ c.requires.held c.args.q c.loop-a.a c.req
 -- the bound holds of the next state and of the state itself
 pub bounds-work-next : goal.bounds-work-next
 bounds-work-next c =
-    let b = c in
-    omega (arith, (inside _ _ _ _ c.requires.held c.args.q c.loop-a.a c.requires.state c.loop-a-test.true _ c.next_of-next.ensures.value _ c.loop-a.work c.requires.room c.loop-a.invariant.1.long).1, b.requires.room, b.requires.state, c.loop-a.invariant.1.long)
+    omega (arith, (inside _ _ _ _ c.requires.held c.args.q c.loop-a.a c.requires.state c.loop-a-test.true _ c.next_of-next.ensures.value _ c.loop-a.work c.requires.room c.loop-a.invariant.1.long).1, c.requires.room, c.requires.state, c.loop-a.invariant.1.long)
 
 pub overflow_add-a : goal.overflow_add-a
 overflow_add-a c = omega (arith, c.loop-a-test.true, c.requires.held.range)
@@ -50,18 +48,16 @@ loop-a-smaller c = omega (arith, c.loop-a-test.true)
 
 pub loop-a-preserved : goal.loop-a-preserved
 loop-a-preserved c =
-    let b = c in
     let l = c.loop-a in
     let x = c.next_of-next.result in (
       omega (arith, c.loop-a-test.true),
-      spread_more _ b.args.q l.a b.args.work.now l.work l.new l.invariant.1 x c.next_of-next.ensures.value (inside _ _ _ _ c.requires.held c.args.q c.loop-a.a c.requires.state c.loop-a-test.true _ c.next_of-next.ensures.value _ c.loop-a.work c.requires.room c.loop-a.invariant.1.long).0 b.requires.room b.requires.small _
+      spread_more _ c.args.q l.a c.args.work.now l.work l.new l.invariant.1 x c.next_of-next.ensures.value (inside _ _ _ _ c.requires.held c.args.q c.loop-a.a c.requires.state c.loop-a-test.true _ c.next_of-next.ensures.value _ c.loop-a.work c.requires.room c.loop-a.invariant.1.long).0 c.requires.room c.requires.small _
           (c.either-new.ensures ∙ ap (λ (y : ℕ). l.new || eqb y 0) c.number_at.ensures.value),
     )
 
 pub returns : goal.returns
 returns c =
-    let b = c in
     let l = c.loop-a in
-    let z = b.args.sizes in
+    let z = c.args.sizes in
     let e : l.a ≡ z.signs = omega (arith, c.loop-a-test.false) in
-    subst (λ (a : ℕ). Spread (machine_in z.states z.signs z.start [] b.args.nexts.now) b.args.q a b.args.work.now l.work l.new) e l.invariant.1
+    subst (λ (a : ℕ). Spread (machine_in z.states z.signs z.start [] c.args.nexts.now) c.args.q a c.args.work.now l.work l.new) e l.invariant.1

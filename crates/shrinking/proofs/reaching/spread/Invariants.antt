@@ -1,16 +1,8 @@
--- `shrinking::reaching::spread` meets its contract. The loop's invariant: the next states under the first a signs are marked.
-use Prim.Native.Nat.{ℕ, ◌+◌, ◌*◌, ◌≤◌, ◌<◌, ◌-◌}
-use mathlib.Core.Path.{◌≡◌, ap, subst, ◌∙◌}
-use mathlib.Core.Bool.{◌||◌}
+-- The loop's invariant of `shrinking::reaching::spread`: the next states under the first a signs are marked.
+use Prim.Native.Nat.{◌≤◌, ◌-◌}
 use mathlib.Core.List.{[]}
-use lib.Dec.{eqb}
-use lib.ListN.{length}
-use Rattle.lending.specs.Pairs.{pair_at}
-use Rattle.table.specs.Encoding.{machine_in, Held}
-use Rattle.table.proofs.Readers.{next_within}
+use Rattle.table.specs.Encoding.{machine_in}
 use Rattle.shrinking.specs.Reached.{Spread}
-use Rattle.shrinking.proofs.Spreading.{spread_none, spread_more}
-use native.Mathlib.Omega.{arith}
 use Rattle.shrinking.proofs.reaching.spread.Given as goal
 
 abbrev pub invariant-loop-a : goal.invariant-loop-a

@@ -1,6 +1,5 @@
 -- `shrinking::reaching::spread_marked` meets its contract: by whether the state is marked.
 use mathlib.Core.Path.{refl, sym, ◌∙◌}
-use borrow.Author.Rules.{rules}
 use Rattle.shrinking.proofs.reaching.spread_marked.Goals as goal
 
 pub returns-then-number_at-eq0 : goal.returns-then-number_at-eq0

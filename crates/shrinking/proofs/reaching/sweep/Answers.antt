@@ -1,21 +1,18 @@
 -- `shrinking::reaching::sweep` meets its contract. The loop's invariant: the sweep over the first q states.
-use Prim.Native.Nat.{◌≤◌, ◌-◌}
+use Prim.Native.Nat.{◌-◌}
 use mathlib.Core.List.{[]}
-use Rattle.table.specs.Encoding.{machine_in}
 use Rattle.table.proofs.Handing.{held_lawful}
-use Rattle.shrinking.proofs.Sweeping.{Sweeping, sweep_none, sweep_more, sweep_done}
+use Rattle.shrinking.proofs.Sweeping.{sweep_none, sweep_more, sweep_done}
 use native.Mathlib.Omega.{arith}
-use borrow.Author.Rules.{rules}
 use Rattle.shrinking.proofs.reaching.sweep.Goals as goal
 
 pub loop-q-init : goal.loop-q-init
-loop-q-init c = let b = c in (omega arith, sweep_none _ (held_lawful [] b.requires.held) _ b.requires.sound)
+loop-q-init c = (omega arith, sweep_none _ (held_lawful [] c.requires.held) _ c.requires.sound)
 
 pub spread_marked-more-requires : goal.spread_marked-more-requires
 spread_marked-more-requires c =
     let l = c.loop-q in
-    let b = c in
-    record { held = b.requires.held; room = omega (arith, l.invariant.1.long, b.requires.room); state = c.loop-q-test.true; small = l.invariant.1.sound.small }
+    record { held = c.requires.held; room = omega (arith, l.invariant.1.long, c.requires.room); state = c.loop-q-test.true; small = l.invariant.1.sound.small }
 
 pub overflow_add-q : goal.overflow_add-q
 overflow_add-q c = omega (arith, c.loop-q-test.true, c.requires.held.range.states_most)
@@ -26,14 +23,12 @@ loop-q-smaller c = omega (arith, c.loop-q-test.true)
 pub loop-q-preserved : goal.loop-q-preserved
 loop-q-preserved c =
     let l = c.loop-q in
-    let b = c in
     let t = c.loop-q-test.true in (
       omega (arith, t),
-      sweep_more _ (held_lawful [] b.requires.held) l.q t b.args.work.now l.work _ l.new _ _ b.requires.sound l.invariant.1 c.spread_marked-more.ensures c.either-new.ensures,
+      sweep_more _ (held_lawful [] c.requires.held) l.q t c.args.work.now l.work _ l.new _ _ c.requires.sound l.invariant.1 c.spread_marked-more.ensures c.either-new.ensures,
     )
 
 pub returns : goal.returns
 returns c =
     let l = c.loop-q in
-    let b = c in
-    sweep_done _ (held_lawful [] b.requires.held) l.q b.args.work.now l.work l.new c.loop-q-test.false l.invariant.1
+    sweep_done _ (held_lawful [] c.requires.held) l.q c.args.work.now l.work l.new c.loop-q-test.false l.invariant.1

@@ -1,10 +1,8 @@
--- `shrinking::reaching::sweep` meets its contract. The loop's invariant: the sweep over the first q states.
+-- The loop's invariant of `shrinking::reaching::sweep`: the sweep over the first q states.
 use Prim.Native.Nat.{◌≤◌, ◌-◌}
 use mathlib.Core.List.{[]}
 use Rattle.table.specs.Encoding.{machine_in}
-use Rattle.table.proofs.Handing.{held_lawful}
-use Rattle.shrinking.proofs.Sweeping.{Sweeping, sweep_none, sweep_more, sweep_done}
-use native.Mathlib.Omega.{arith}
+use Rattle.shrinking.proofs.Sweeping.{Sweeping}
 use Rattle.shrinking.proofs.reaching.sweep.Given as goal
 
 abbrev pub invariant-loop-q : goal.invariant-loop-q

@@ -1,10 +1,9 @@
 -- `shrinking::rows::flag_classes` meets its contract. The loop's invariant: the classes of the first q marked states are flagged.
-use Prim.Native.Nat.{ℕ, ◌+◌, ◌*◌, ◌≤◌, ◌-◌}
+use Prim.Native.Nat.{ℕ, ◌+◌, ◌*◌, ◌-◌}
 use mathlib.Core.Path.{◌≡◌, subst}
 use Rattle.shrinking.specs.Reached.{Flagged}
 use Rattle.shrinking.proofs.Flagging.{flags_none, flags_more}
 use native.Mathlib.Omega.{arith}
-use borrow.Author.Rules.{rules}
 use Rattle.shrinking.proofs.rows.flag_classes.Goals as goal
 
 pub loop-q-init : goal.loop-q-init
@@ -13,9 +12,8 @@ loop-q-init c = (omega arith, flags_none _ _ c.requires.unflagged)
 pub flag_class-requires : goal.flag_class-requires
 flag_class-requires c =
     let l = c.loop-q in
-    let b = c in
     let t = c.loop-q-test.true in
-    record { room = (omega (arith, b.requires.room.0, l.invariant.1.long), b.requires.room.1); within = (t, rw (l.invariant.1.beyond (6 * b.args.n + l.q) (omega arith)) (b.requires.classed l.q t)) }
+    record { room = (omega (arith, c.requires.room.0, l.invariant.1.long), c.requires.room.1); within = (t, rw (l.invariant.1.beyond (6 * c.args.n + l.q) (omega arith)) (c.requires.classed l.q t)) }
 
 pub overflow_add-q : goal.overflow_add-q
 overflow_add-q c = omega (arith, c.loop-q-test.true, c.requires.room.1)
@@ -26,9 +24,8 @@ loop-q-smaller c = omega (arith, c.loop-q-test.true)
 pub loop-q-preserved : goal.loop-q-preserved
 loop-q-preserved c =
     let l = c.loop-q in
-    let b = c in
     let t = c.loop-q-test.true in
-    (omega (arith, t), flags_more b.args.n l.q t b.args.work.now l.work b.requires.room.0 (b.requires.classed l.q t) l.invariant.1 _ c.flag_class.ensures)
+    (omega (arith, t), flags_more c.args.n l.q t c.args.work.now l.work c.requires.room.0 (c.requires.classed l.q t) l.invariant.1 _ c.flag_class.ensures)
 
 pub returns : goal.returns
 returns c =

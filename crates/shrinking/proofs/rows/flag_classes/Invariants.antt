@@ -1,9 +1,6 @@
--- `shrinking::rows::flag_classes` meets its contract. The loop's invariant: the classes of the first q marked states are flagged.
-use Prim.Native.Nat.{ℕ, ◌+◌, ◌*◌, ◌≤◌, ◌-◌}
-use mathlib.Core.Path.{◌≡◌, subst}
+-- The loop's invariant of `shrinking::rows::flag_classes`: the classes of the first q marked states are flagged.
+use Prim.Native.Nat.{◌≤◌, ◌-◌}
 use Rattle.shrinking.specs.Reached.{Flagged}
-use Rattle.shrinking.proofs.Flagging.{flags_none, flags_more}
-use native.Mathlib.Omega.{arith}
 use Rattle.shrinking.proofs.rows.flag_classes.Given as goal
 
 abbrev pub invariant-loop-q : goal.invariant-loop-q

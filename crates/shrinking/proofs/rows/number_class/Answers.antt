@@ -1,8 +1,5 @@
 -- `shrinking::rows::number_class` meets its contract: by whether the class is flagged.
 use mathlib.Core.Path.{refl, sym, ◌∙◌}
-use lib.ListN.{length-set}
-use native.Mathlib.Omega.{arith}
-use borrow.Author.Rules.{rules}
 use Rattle.shrinking.proofs.rows.number_class.Goals as goal
 
 pub returns-then-number_at-eq1 : goal.returns-then-number_at-eq1

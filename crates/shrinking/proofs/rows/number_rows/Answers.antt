@@ -1,10 +1,9 @@
 -- `shrinking::rows::number_rows` meets its contract. The loop's invariant: the flagged classes below c are numbered and listed.
-use Prim.Native.Nat.{ℕ, ◌≤◌, ◌-◌}
+use Prim.Native.Nat.{ℕ, ◌-◌}
 use mathlib.Core.Path.{◌≡◌, subst}
 use Rattle.shrinking.specs.Reached.{Numbered}
 use Rattle.shrinking.proofs.Numbering.{numbers_none, rows_most, numbers_more}
 use native.Mathlib.Omega.{arith}
-use borrow.Author.Rules.{rules}
 use Rattle.shrinking.proofs.rows.number_rows.Goals as goal
 
 pub loop-c-init : goal.loop-c-init
@@ -13,8 +12,7 @@ loop-c-init c = (omega arith, numbers_none _ _)
 pub number_class-rows-requires : goal.number_class-rows-requires
 number_class-rows-requires c =
     let l = c.loop-c in
-    let b = c in
-    record { room = (omega (arith, b.requires.room.0, l.invariant.1.long), b.requires.room.1); within = (c.loop-c-test.true, rows_most b.args.n l.c l.rows b.args.work.now l.work l.invariant.1) }
+    record { room = (omega (arith, c.requires.room.0, l.invariant.1.long), c.requires.room.1); within = (c.loop-c-test.true, rows_most c.args.n l.c l.rows c.args.work.now l.work l.invariant.1) }
 
 pub overflow_add-c : goal.overflow_add-c
 overflow_add-c c = omega (arith, c.loop-c-test.true, c.requires.room.1)
@@ -25,9 +23,8 @@ loop-c-smaller c = omega (arith, c.loop-c-test.true)
 pub loop-c-preserved : goal.loop-c-preserved
 loop-c-preserved c =
     let l = c.loop-c in
-    let b = c in
     let t = c.loop-c-test.true in
-    (omega (arith, t), numbers_more b.args.n l.c l.rows b.args.work.now l.work l.invariant.1 t b.requires.room.0 _ _ c.number_class-rows.ensures)
+    (omega (arith, t), numbers_more c.args.n l.c l.rows c.args.work.now l.work l.invariant.1 t c.requires.room.0 _ _ c.number_class-rows.ensures)
 
 pub returns : goal.returns
 returns c =

@@ -1,9 +1,6 @@
--- `shrinking::rows::number_rows` meets its contract. The loop's invariant: the flagged classes below c are numbered and listed.
-use Prim.Native.Nat.{ℕ, ◌≤◌, ◌-◌}
-use mathlib.Core.Path.{◌≡◌, subst}
+-- The loop's invariant of `shrinking::rows::number_rows`: the flagged classes below c are numbered and listed.
+use Prim.Native.Nat.{◌≤◌, ◌-◌}
 use Rattle.shrinking.specs.Reached.{Numbered}
-use Rattle.shrinking.proofs.Numbering.{numbers_none, rows_most, numbers_more}
-use native.Mathlib.Omega.{arith}
 use Rattle.shrinking.proofs.rows.number_rows.Given as goal
 
 abbrev pub invariant-loop-c : goal.invariant-loop-c

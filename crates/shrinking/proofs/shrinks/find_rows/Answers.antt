@@ -1,13 +1,8 @@
 -- `shrinking::shrinks::find_rows` meets its contract: a full splitting, then marking, flagging and numbering.
-use mathlib.Core.Path.{◌≡◌}
 use Prim.Native.Nat.{◌*◌, ◌≤◌}
 use lib.ListN.{length}
-use Rattle.automaton.specs.Layers.{classes}
-use Rattle.table.specs.Encoding.{machine_in}
-use Rattle.splitting.specs.Work.{class_in}
 use Rattle.shrinking.proofs.Finding.{started_formed, classes_found, marked_long, marked_classed, unflagged, rows_found}
 use native.Mathlib.Omega.{arith}
-use borrow.Author.Rules.{rules}
 use Rattle.shrinking.proofs.shrinks.find_rows.Goals as goal
 
 pub run_takes-tally-requires : goal.run_takes-tally-requires

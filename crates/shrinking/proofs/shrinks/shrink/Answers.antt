@@ -18,7 +18,6 @@ use Rattle.shrinking.specs.Written.{row_machine, file_length}
 use Rattle.shrinking.specs.Found.{RowsFound}
 use Rattle.shrinking.proofs.ShrinkWays.{shrink_refused, shrink_narrow, shrink_short, shrink_made}
 use native.Mathlib.Omega.{arith}
-use borrow.Author.Rules.{rules}
 use Rattle.shrinking.proofs.shrinks.shrink.Goals as goal
 
 -- the bodies handed on are those of the file

@@ -2,7 +2,6 @@
 use mathlib.Core.Path.{ap, ◌∙◌}
 use Prim.Native.Nat.{ℕ, ◌+◌, ◌*◌}
 use Rattle.counting.specs.Lists.{at}
-use borrow.Author.Rules.{rules}
 use Rattle.shrinking.proofs.writing.row_of.Goals as goal
 
 pub returns : goal.returns

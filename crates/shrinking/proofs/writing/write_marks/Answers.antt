@@ -1,12 +1,11 @@
 -- `shrinking::writing::write_marks` meets its contract. The loop's invariant: the marks of the first i rows are written.
-use Prim.Native.Nat.{ℕ, ◌+◌, ◌≤◌, ◌-◌}
+use Prim.Native.Nat.{ℕ, ◌+◌, ◌-◌}
 use mathlib.Core.Path.{◌≡◌, refl, ap, ◌∙◌}
-use lib.ListN.{length, length-set}
+use lib.ListN.{length-set}
 use lib.Seq.{sets}
 use Rattle.shrinking.specs.Written.{marks_bytes}
 use Rattle.shrinking.proofs.Stores.{marks_none, marks_more}
 use native.Mathlib.Omega.{arith}
-use borrow.Author.Rules.{rules}
 use Rattle.shrinking.proofs.writing.write_marks.Goals as goal
 
 pub loop-i-init : goal.loop-i-init
@@ -14,8 +13,7 @@ loop-i-init c = (omega arith, refl, marks_none _ _ _ _)
 
 pub mark_of-requires : goal.mark_of-requires
 mark_of-requires c =
-    let b = c in
-    omega (arith, c.number_at.ensures.value, b.requires.listed.1 c.loop-i.i c.loop-i-test.true)
+    omega (arith, c.number_at.ensures.value, c.requires.listed.1 c.loop-i.i c.loop-i-test.true)
 
 pub loop-i-preserved : goal.loop-i-preserved
 loop-i-preserved c =

@@ -1,11 +1,9 @@
--- `shrinking::writing::write_marks` meets its contract. The loop's invariant: the marks of the first i rows are written.
-use Prim.Native.Nat.{ℕ, ◌+◌, ◌≤◌, ◌-◌}
-use mathlib.Core.Path.{◌≡◌, refl, ap, ◌∙◌}
-use lib.ListN.{length, length-set}
+-- The loop's invariant of `shrinking::writing::write_marks`: the marks of the first i rows are written.
+use Prim.Native.Nat.{◌≤◌, ◌-◌}
+use mathlib.Core.Path.{◌≡◌}
+use lib.ListN.{length}
 use lib.Seq.{sets}
 use Rattle.shrinking.specs.Written.{marks_bytes}
-use Rattle.shrinking.proofs.Stores.{marks_none, marks_more}
-use native.Mathlib.Omega.{arith}
 use Rattle.shrinking.proofs.writing.write_marks.Given as goal
 
 abbrev pub invariant-loop-i : goal.invariant-loop-i

@@ -11,7 +11,6 @@ use Rattle.shrinking.specs.Reached.{row_at}
 use Rattle.shrinking.specs.Written.{Writable, row_of, row_bytes}
 use Rattle.shrinking.proofs.Stores.{row_none, row_more, row_within, rows_most}
 use native.Mathlib.Omega.{arith}
-use borrow.Author.Rules.{rules}
 use Rattle.shrinking.proofs.writing.write_row.Goals as goal
 
 -- the row ends where numbers are still small
@@ -23,13 +22,11 @@ overflow_mul-n c = omega (arith, c.requires.held.range.states_most)
 
 pub overflow_add-n : goal.overflow_add-n
 overflow_add-n c =
-    let b = c in
-    omega (arith, b.requires.held.range.states_most, b.requires.writable.most, b.requires.row)
+    omega (arith, c.requires.held.range.states_most, c.requires.writable.most, c.requires.row)
 
 pub number_at-state-requires : goal.number_at-state-requires
 number_at-state-requires c =
-    let b = c in
-    omega (arith, b.requires.writable.room, b.requires.writable.most, b.requires.row)
+    omega (arith, c.requires.writable.room, c.requires.writable.most, c.requires.row)
 
 pub overflow_add-place : goal.overflow_add-place
 overflow_add-place c = omega (arith, below _ _ _ _ _ _ _ c.requires.held c.requires.writable c.requires.row)
@@ -51,23 +48,20 @@ loop-a-init c = (omega arith, omega arith, refl, row_none _ _ _ _ _ _ _)
 
 pub next_of-requires : goal.next_of-requires
 next_of-requires c =
-    let b = c in
-    rw b.requires.held.long (next_within _ _ _ _ (omega (arith, c.number_at-state.ensures.value, b.requires.writable.states b.args.i b.requires.row, b.requires.row, b.requires.writable.most)) c.loop-a-test.true)
+    rw c.requires.held.long (next_within _ _ _ _ (omega (arith, c.number_at-state.ensures.value, c.requires.writable.states c.args.i c.requires.row, c.requires.row, c.requires.writable.most)) c.loop-a-test.true)
 
 pub row_of-row-requires : goal.row_of-row-requires
 row_of-row-requires c =
-    let b = c in
-    let m : c.next_of.result < b.args.sizes.states =
-    rw c.next_of.ensures.value (b.requires.held.next_in _ _ (omega (arith, c.number_at-state.ensures.value, b.requires.writable.states b.args.i b.requires.row, b.requires.row, b.requires.writable.most)) c.loop-a-test.true)
+    let m : c.next_of.result < c.args.sizes.states =
+    rw c.next_of.ensures.value (c.requires.held.next_in _ _ (omega (arith, c.number_at-state.ensures.value, c.requires.writable.states c.args.i c.requires.row, c.requires.row, c.requires.writable.most)) c.loop-a-test.true)
     in
-    record { room = b.requires.writable.room; within = (m, b.requires.writable.classes c.next_of.result m) }
+    record { room = c.requires.writable.room; within = (m, c.requires.writable.classes c.next_of.result m) }
 
 pub put_pair-requires : goal.put_pair-requires
 put_pair-requires c =
-    let b = c in
     let l = c.loop-a in
-    let r = row_within b.args.rows b.args.sizes.signs b.args.i b.requires.row in
-    (omega (arith, r, l.invariant.1, l.invariant.2, c.loop-a-test.true, b.requires.room), c.row_of-row.ensures.small)
+    let r = row_within c.args.rows c.args.sizes.signs c.args.i c.requires.row in
+    (omega (arith, r, l.invariant.1, l.invariant.2, c.loop-a-test.true, c.requires.room), c.row_of-row.ensures.small)
 
 pub overflow_add-place-in-loop-a : goal.overflow_add-place-in-loop-a
 overflow_add-place-in-loop-a c = omega (arith, below _ _ _ _ _ _ _ c.requires.held c.requires.writable c.requires.row, c.loop-a.invariant.1, c.loop-a-test.true)
@@ -80,8 +74,7 @@ loop-a-smaller c = omega (arith, c.loop-a-test.true)
 
 pub loop-a-preserved : goal.loop-a-preserved
 loop-a-preserved c =
-    let b = c in
-    let a = b.args in
+    let a = c.args in
     let z = a.sizes in
     let l = c.loop-a in
     let p = 12 + a.rows + 3 + 2 * (a.i * z.signs) in

@@ -1,14 +1,9 @@
--- `shrinking::writing::write_row` meets its contract. The loop's invariant: the next states under the first a signs are written.
-use Prim.Native.Nat.{ℕ, ◌+◌, ◌*◌, ◌≤◌, ◌<◌, ◌-◌}
-use mathlib.Core.Path.{◌≡◌, refl, ap, ◌∙◌}
+-- The loop's invariant of `shrinking::writing::write_row`: the next states under the first a signs are written.
+use Prim.Native.Nat.{◌+◌, ◌*◌, ◌≤◌, ◌-◌}
+use mathlib.Core.Path.{◌≡◌}
 use lib.ListN.{length}
-use lib.Seq.{sets, length-sets}
-use Rattle.lending.specs.Pairs.{pair_at}
-use Rattle.table.proofs.Readers.{next_within}
-use Rattle.shrinking.specs.Reached.{row_at}
-use Rattle.shrinking.specs.Written.{row_of, row_bytes}
-use Rattle.shrinking.proofs.Stores.{row_none, row_more, row_within, rows_most}
-use native.Mathlib.Omega.{arith}
+use lib.Seq.{sets}
+use Rattle.shrinking.specs.Written.{row_bytes}
 use Rattle.shrinking.proofs.writing.write_row.Given as goal
 
 abbrev pub invariant-loop-a : goal.invariant-loop-a

@@ -8,7 +8,6 @@ use Rattle.table.specs.Encoding.{machine_in, Held}
 use Rattle.shrinking.specs.Written.{Writable, rows_bytes}
 use Rattle.shrinking.proofs.Stores.{rows_none, rows_more, rows-length, field_stored, rows_most}
 use native.Mathlib.Omega.{arith}
-use borrow.Author.Rules.{rules}
 use Rattle.shrinking.proofs.writing.write_rows.Goals as goal
 
 -- all numbers are small
@@ -38,15 +37,13 @@ loop-i-init c = (omega arith, refl, rows_none _ _ _ _ _ _)
 
 pub write_row-requires : goal.write_row-requires
 write_row-requires c =
-    let b = c in
     let l = c.loop-i in
     let k : length c.put_pair.new.out ≡ length c.args.out.now = ap length c.put_pair.ensures ∙ simp length-set in
-    record { held = b.requires.held; writable = b.requires.writable; row = c.loop-i-test.true; room = omega (arith, l.invariant.1, b.requires.room) }
+    record { held = c.requires.held; writable = c.requires.writable; row = c.loop-i-test.true; room = omega (arith, l.invariant.1, c.requires.room) }
 
 pub overflow_add-i : goal.overflow_add-i
 overflow_add-i c =
-    let b = c in
-    omega (arith, c.loop-i-test.true, b.requires.writable.most, b.requires.held.range.states_most)
+    omega (arith, c.loop-i-test.true, c.requires.writable.most, c.requires.held.range.states_most)
 
 pub loop-i-smaller : goal.loop-i-smaller
 loop-i-smaller c = omega (arith, c.loop-i-test.true)

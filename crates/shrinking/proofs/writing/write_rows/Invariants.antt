@@ -1,11 +1,9 @@
--- `shrinking::writing::write_rows` meets its contract. The loop's invariant: the next states of the first i rows are written.
-use Prim.Native.Nat.{ℕ, ◌+◌, ◌*◌, ◌≤◌, ◌-◌}
-use mathlib.Core.Path.{◌≡◌, refl, ap, ◌∙◌}
-use lib.ListN.{length, length-set}
-use lib.Seq.{sets, length-sets}
+-- The loop's invariant of `shrinking::writing::write_rows`: the next states of the first i rows are written.
+use Prim.Native.Nat.{◌+◌, ◌≤◌, ◌-◌}
+use mathlib.Core.Path.{◌≡◌}
+use lib.ListN.{length}
+use lib.Seq.{sets}
 use Rattle.shrinking.specs.Written.{rows_bytes}
-use Rattle.shrinking.proofs.Stores.{rows_none, rows_more, rows-length, field_stored, rows_most}
-use native.Mathlib.Omega.{arith}
 use Rattle.shrinking.proofs.writing.write_rows.Given as goal
 
 abbrev pub invariant-loop-i : goal.invariant-loop-i

@@ -1,9 +1,5 @@
 -- `shrinking::writing::write_sizes` meets its contract: its stores are those of the bytes, one behind the other.
-use native.Mathlib.Omega.{arith}
-use mathlib.Core.Path.{◌≡◌, ap, ◌∙◌}
-use lib.ListN.{length, length-set}
 use Rattle.shrinking.proofs.Stores.{sizes_stored}
-use borrow.Author.Rules.{rules}
 use Rattle.shrinking.proofs.writing.write_sizes.Goals as goal
 
 pub returns : goal.returns

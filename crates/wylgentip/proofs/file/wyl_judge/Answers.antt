@@ -3,7 +3,6 @@ use mathlib.Core.Path.{sym, ap, ◌∙◌}
 use Prim.Native.Nat.{ℕ}
 use Rattle.table.specs.Answers.{refuses, told}
 use Rattle.wylgentip.specs.Flat.{flat_judged}
-use borrow.Author.Rules.{rules}
 use Rattle.wylgentip.proofs.file.wyl_judge.Goals as goal
 
 pub returns-in-Accepted : goal.returns-in-Accepted
@@ -11,6 +10,5 @@ returns-in-Accepted c = ap flat_judged (sym (ap told c.in-Accepted.is) ∙ c.jud
 
 pub returns-in-Refused : goal.returns-in-Refused
 returns-in-Refused c =
-    let a = c in
-    ap (λ (number : ℕ). flat_judged (refuses number a.in-Refused.refusal.place)) c.number_of.ensures
-    ∙ ap flat_judged (sym (ap told a.in-Refused.is) ∙ a.judge-answer.ensures)
+    ap (λ (number : ℕ). flat_judged (refuses number c.in-Refused.refusal.place)) c.number_of.ensures
+    ∙ ap flat_judged (sym (ap told c.in-Refused.is) ∙ c.judge-answer.ensures)

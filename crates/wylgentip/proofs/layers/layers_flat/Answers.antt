@@ -3,7 +3,6 @@ use mathlib.Core.Path.{sym, ap, ◌∙◌}
 use Prim.Native.Nat.{ℕ}
 use Rattle.table.specs.Answers.{refuses}
 use Rattle.wylgentip.specs.Flat.{flat_layers, layers_flat}
-use borrow.Author.Rules.{rules}
 use Rattle.wylgentip.proofs.layers.layers_flat.Goals as goal
 
 pub returns-in-Found : goal.returns-in-Found
@@ -11,5 +10,4 @@ returns-in-Found c = ap layers_flat (sym c.in-Found.is)
 
 pub returns-in-Refused : goal.returns-in-Refused
 returns-in-Refused c =
-    let a = c in
-    ap (λ (number : ℕ). flat_layers (refuses number a.in-Refused.refusal.place)) c.number_of.ensures ∙ ap layers_flat (sym a.in-Refused.is)
+    ap (λ (number : ℕ). flat_layers (refuses number c.in-Refused.refusal.place)) c.number_of.ensures ∙ ap layers_flat (sym c.in-Refused.is)

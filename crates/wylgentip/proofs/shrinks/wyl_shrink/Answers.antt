@@ -2,7 +2,6 @@
 use mathlib.Core.Path.{ap, ◌∙◌}
 use Rattle.table.specs.Leaving.{Left}
 use Rattle.wylgentip.specs.Flat.{flat_shrink}
-use borrow.Author.Rules.{rules}
 use Rattle.wylgentip.proofs.shrinks.wyl_shrink.Goals as goal
 
 pub returns : goal.returns

@@ -3,7 +3,6 @@ use mathlib.Core.Path.{sym, ap, ◌∙◌}
 use Prim.Native.Nat.{ℕ}
 use Rattle.table.specs.Answers.{refuses}
 use Rattle.wylgentip.specs.Flat.{flat_run, run_flat}
-use borrow.Author.Rules.{rules}
 use Rattle.wylgentip.proofs.takes.run_flat.Goals as goal
 
 pub returns-in-Made : goal.returns-in-Made
@@ -11,5 +10,4 @@ returns-in-Made c = ap run_flat (sym c.in-Made.is)
 
 pub returns-in-Refused : goal.returns-in-Refused
 returns-in-Refused c =
-    let a = c in
-    ap (λ (number : ℕ). flat_run (refuses number a.in-Refused.refusal.place)) c.number_of.ensures ∙ ap run_flat (sym a.in-Refused.is)
+    ap (λ (number : ℕ). flat_run (refuses number c.in-Refused.refusal.place)) c.number_of.ensures ∙ ap run_flat (sym c.in-Refused.is)

@@ -3,7 +3,6 @@ use mathlib.Core.Path.{sym, ap, ◌∙◌}
 use Prim.Native.Nat.{ℕ}
 use Rattle.table.specs.Answers.{refuses}
 use Rattle.wylgentip.specs.Flat.{flat_start, start_flat}
-use borrow.Author.Rules.{rules}
 use Rattle.wylgentip.proofs.takes.start_flat.Goals as goal
 
 pub returns-in-Fresh : goal.returns-in-Fresh
@@ -11,5 +10,4 @@ returns-in-Fresh c = ap start_flat (sym c.in-Fresh.is)
 
 pub returns-in-Refused : goal.returns-in-Refused
 returns-in-Refused c =
-    let a = c in
-    ap (λ (number : ℕ). flat_start (refuses number a.in-Refused.refusal.place)) c.number_of.ensures ∙ ap start_flat (sym a.in-Refused.is)
+    ap (λ (number : ℕ). flat_start (refuses number c.in-Refused.refusal.place)) c.number_of.ensures ∙ ap start_flat (sym c.in-Refused.is)

@@ -3,7 +3,6 @@ use mathlib.Core.Path.{sym, ap, ◌∙◌}
 use Prim.Native.Nat.{ℕ}
 use Rattle.table.specs.Answers.{refuses}
 use Rattle.wylgentip.specs.Flat.{flat_tell, tell_flat}
-use borrow.Author.Rules.{rules}
 use Rattle.wylgentip.proofs.tells.tell_flat.Goals as goal
 
 pub returns-in-Alike : goal.returns-in-Alike
@@ -14,5 +13,4 @@ returns-in-Apart c = ap tell_flat (sym c.in-Apart.is)
 
 pub returns-in-Refused : goal.returns-in-Refused
 returns-in-Refused c =
-    let a = c in
-    ap (λ (number : ℕ). flat_tell (refuses number a.in-Refused.refusal.place)) c.number_of.ensures ∙ ap tell_flat (sym a.in-Refused.is)
+    ap (λ (number : ℕ). flat_tell (refuses number c.in-Refused.refusal.place)) c.number_of.ensures ∙ ap tell_flat (sym c.in-Refused.is)

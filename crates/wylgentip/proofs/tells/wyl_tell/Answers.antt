@@ -2,7 +2,6 @@
 use mathlib.Core.Path.{ap, ◌∙◌}
 use Rattle.table.specs.Leaving.{Left}
 use Rattle.wylgentip.specs.Flat.{flat_tell}
-use borrow.Author.Rules.{rules}
 use Rattle.wylgentip.proofs.tells.wyl_tell.Goals as goal
 
 pub returns : goal.returns

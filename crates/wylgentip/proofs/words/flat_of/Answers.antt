@@ -3,7 +3,6 @@ use mathlib.Core.Path.{sym, ap, ◌∙◌}
 use Prim.Native.Nat.{ℕ}
 use Rattle.table.specs.Answers.{refuses}
 use Rattle.wylgentip.specs.Flat.{flat_ran, flat_of}
-use borrow.Author.Rules.{rules}
 use Rattle.wylgentip.proofs.words.flat_of.Goals as goal
 
 pub returns-in-Ended : goal.returns-in-Ended
@@ -11,5 +10,4 @@ returns-in-Ended c = ap flat_of (sym c.in-Ended.is)
 
 pub returns-in-Refused : goal.returns-in-Refused
 returns-in-Refused c =
-    let a = c in
-    ap (λ (number : ℕ). flat_ran (refuses number a.in-Refused.refusal.place)) c.number_of.ensures ∙ ap flat_of (sym a.in-Refused.is)
+    ap (λ (number : ℕ). flat_ran (refuses number c.in-Refused.refusal.place)) c.number_of.ensures ∙ ap flat_of (sym c.in-Refused.is)

@@ -1,7 +1,6 @@
 -- `wylgentip::words::wyl_run_line` meets its contract: the run's answer as its numbers.
 use mathlib.Core.Path.{ap, ◌∙◌}
 use Rattle.wylgentip.specs.Flat.{flat_ran}
-use borrow.Author.Rules.{rules}
 use Rattle.wylgentip.proofs.words.wyl_run_line.Goals as goal
 
 pub returns : goal.returns
