@@ -1,15 +1,8 @@
 -- `splitting::runs::make_takes` meets its contract. The loop's invariant: so far every take was made, and the work slice holds the lists of the run.
-use Prim.Native.Nat.{ℕ, ◌+◌, ◌-◌, ◌≤◌, ◌<◌}
-use mathlib.Core.Logic.{◌≢◌}
-use mathlib.Core.Path.{◌≡◌, sym, subst, ◌∙◌}
+use Prim.Native.Nat.{◌-◌, ◌≤◌}
 use mathlib.Core.List.{[]}
-use Rattle.counting.specs.Least.{pick}
-use Rattle.automaton.specs.Machine.{Machine}
 use Rattle.table.specs.Encoding.{machine_in}
-use Rattle.table.proofs.Handing.{held_lawful}
-use Rattle.splitting.specs.Work.{pending_of}
-use Rattle.splitting.proofs.Progress.{Progress, progress_none, progress_more, first_waits, looked_more, ran_all, ran_idle}
-use native.Mathlib.Omega.{arith}
+use Rattle.splitting.proofs.Progress.{Progress}
 use Rattle.splitting.proofs.runs.make_takes.Given as goal
 
 abbrev pub invariant-loop-takes : goal.invariant-loop-takes
