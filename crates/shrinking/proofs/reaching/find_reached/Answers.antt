@@ -7,13 +7,6 @@ use Rattle.shrinking.proofs.Sweeping.{sound_start, start_long, start_beyond, fou
 use native.Mathlib.Omega.{arith}
 use Rattle.shrinking.proofs.reaching.find_reached.Goals as goal
 
-pub clear-requires : goal.clear-requires
-clear-requires c = c.requires.room
-
-pub bounds-work-start : goal.bounds-work-start
-bounds-work-start c =
-    rw c.clear.ensures (omega (arith, c.requires.held.start-in, c.requires.room, cleared-length c.args.sizes.states c.args.work.now c.requires.room))
-
 pub loop-sizes-init : goal.loop-sizes-init
 loop-sizes-init c =
     (sound_start _ (held_lawful [] c.requires.held) c.args.work.now _ c.clear.ensures c.requires.room, refl, λ i k. refl)

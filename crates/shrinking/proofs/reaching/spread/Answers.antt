@@ -35,17 +35,6 @@ next_of-next-requires c = (reads _ _ _ _ c.requires.held c.args.q c.loop-a.a c.r
 pub number_at-requires : goal.number_at-requires
 number_at-requires c = (inside _ _ _ _ c.requires.held c.args.q c.loop-a.a c.requires.state c.loop-a-test.true _ c.next_of-next.ensures.value _ c.loop-a.work c.requires.room c.loop-a.invariant.1.long).1
 
--- the bound holds of the next state and of the state itself
-pub bounds-work-next : goal.bounds-work-next
-bounds-work-next c =
-    omega (arith, (inside _ _ _ _ c.requires.held c.args.q c.loop-a.a c.requires.state c.loop-a-test.true _ c.next_of-next.ensures.value _ c.loop-a.work c.requires.room c.loop-a.invariant.1.long).1, c.requires.room, c.requires.state, c.loop-a.invariant.1.long)
-
-pub overflow_add-a : goal.overflow_add-a
-overflow_add-a c = omega (arith, c.loop-a-test.true, c.requires.held.range)
-
-pub loop-a-smaller : goal.loop-a-smaller
-loop-a-smaller c = omega (arith, c.loop-a-test.true)
-
 pub loop-a-preserved : goal.loop-a-preserved
 loop-a-preserved c =
     let l = c.loop-a in

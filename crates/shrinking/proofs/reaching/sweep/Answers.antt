@@ -14,12 +14,6 @@ spread_marked-more-requires c =
     let l = c.loop-q in
     record { held = c.requires.held; room = omega (arith, l.invariant.1.long, c.requires.room); state = c.loop-q-test.true; small = l.invariant.1.sound.small }
 
-pub overflow_add-q : goal.overflow_add-q
-overflow_add-q c = omega (arith, c.loop-q-test.true, c.requires.held.range.states_most)
-
-pub loop-q-smaller : goal.loop-q-smaller
-loop-q-smaller c = omega (arith, c.loop-q-test.true)
-
 pub loop-q-preserved : goal.loop-q-preserved
 loop-q-preserved c =
     let l = c.loop-q in

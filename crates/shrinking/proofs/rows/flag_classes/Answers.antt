@@ -15,12 +15,6 @@ flag_class-requires c =
     let t = c.loop-q-test.true in
     record { room = (omega (arith, c.requires.room.0, l.invariant.1.long), c.requires.room.1); within = (t, rw (l.invariant.1.beyond (6 * c.args.n + l.q) (omega arith)) (c.requires.classed l.q t)) }
 
-pub overflow_add-q : goal.overflow_add-q
-overflow_add-q c = omega (arith, c.loop-q-test.true, c.requires.room.1)
-
-pub loop-q-smaller : goal.loop-q-smaller
-loop-q-smaller c = omega (arith, c.loop-q-test.true)
-
 pub loop-q-preserved : goal.loop-q-preserved
 loop-q-preserved c =
     let l = c.loop-q in

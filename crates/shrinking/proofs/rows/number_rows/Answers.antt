@@ -14,12 +14,6 @@ number_class-rows-requires c =
     let l = c.loop-c in
     record { room = (omega (arith, c.requires.room.0, l.invariant.1.long), c.requires.room.1); within = (c.loop-c-test.true, rows_most c.args.n l.c l.rows c.args.work.now l.work l.invariant.1) }
 
-pub overflow_add-c : goal.overflow_add-c
-overflow_add-c c = omega (arith, c.loop-c-test.true, c.requires.room.1)
-
-pub loop-c-smaller : goal.loop-c-smaller
-loop-c-smaller c = omega (arith, c.loop-c-test.true)
-
 pub loop-c-preserved : goal.loop-c-preserved
 loop-c-preserved c =
     let l = c.loop-c in

@@ -17,31 +17,9 @@ use Rattle.shrinking.proofs.writing.write_row.Goals as goal
 below : (n k start : ℕ) (nexts work : List ℕ) (rows i : ℕ) → Held n k start nexts → Writable (machine_in n k start [] nexts) rows work → i < rows → 12 + rows + 3 + 2 * (i * k + k) ≤ 70000
 below n k start nexts work rows i h w l = omega (arith, rows_most n k start nexts work rows h w, row_within rows k i l, w.most, h.range.states_most)
 
-pub overflow_mul-n : goal.overflow_mul-n
-overflow_mul-n c = omega (arith, c.requires.held.range.states_most)
-
-pub overflow_add-n : goal.overflow_add-n
-overflow_add-n c =
-    omega (arith, c.requires.held.range.states_most, c.requires.writable.most, c.requires.row)
-
 pub number_at-state-requires : goal.number_at-state-requires
 number_at-state-requires c =
     omega (arith, c.requires.writable.room, c.requires.writable.most, c.requires.row)
-
-pub overflow_add-place : goal.overflow_add-place
-overflow_add-place c = omega (arith, below _ _ _ _ _ _ _ c.requires.held c.requires.writable c.requires.row)
-
-pub overflow_add-place-2 : goal.overflow_add-place-2
-overflow_add-place-2 c = omega (arith, below _ _ _ _ _ _ _ c.requires.held c.requires.writable c.requires.row)
-
-pub overflow_mul-place : goal.overflow_mul-place
-overflow_mul-place c = omega (arith, below _ _ _ _ _ _ _ c.requires.held c.requires.writable c.requires.row)
-
-pub overflow_mul-place-2 : goal.overflow_mul-place-2
-overflow_mul-place-2 c = omega (arith, below _ _ _ _ _ _ _ c.requires.held c.requires.writable c.requires.row)
-
-pub overflow_add-place-3 : goal.overflow_add-place-3
-overflow_add-place-3 c = omega (arith, below _ _ _ _ _ _ _ c.requires.held c.requires.writable c.requires.row)
 
 pub loop-a-init : goal.loop-a-init
 loop-a-init c = (omega arith, omega arith, refl, row_none _ _ _ _ _ _ _)
@@ -62,15 +40,6 @@ put_pair-requires c =
     let l = c.loop-a in
     let r = row_within c.args.rows c.args.sizes.signs c.args.i c.requires.row in
     (omega (arith, r, l.invariant.1, l.invariant.2, c.loop-a-test.true, c.requires.room), c.row_of-row.ensures.small)
-
-pub overflow_add-place-in-loop-a : goal.overflow_add-place-in-loop-a
-overflow_add-place-in-loop-a c = omega (arith, below _ _ _ _ _ _ _ c.requires.held c.requires.writable c.requires.row, c.loop-a.invariant.1, c.loop-a-test.true)
-
-pub overflow_add-a : goal.overflow_add-a
-overflow_add-a c = omega (arith, c.loop-a-test.true, c.requires.held.range.signs_most)
-
-pub loop-a-smaller : goal.loop-a-smaller
-loop-a-smaller c = omega (arith, c.loop-a-test.true)
 
 pub loop-a-preserved : goal.loop-a-preserved
 loop-a-preserved c =

@@ -14,21 +14,6 @@ use Rattle.shrinking.proofs.writing.write_rows.Goals as goal
 below : (n k start : ℕ) (nexts work : List ℕ) (rows : ℕ) → Held n k start nexts → Writable (machine_in n k start [] nexts) rows work → (rows ≤ 1024) × (rows * k ≤ 32000)
 below n k start nexts work rows h w = (omega (arith, w.most, h.range.states_most), rows_most n k start nexts work rows h w)
 
-pub overflow_add-tag : goal.overflow_add-tag
-overflow_add-tag c = omega (arith, (below _ _ _ _ _ _ c.requires.held c.requires.writable).0)
-
-pub bounds-out-tag : goal.bounds-out-tag
-bounds-out-tag c = omega (arith, c.requires.room)
-
-pub overflow_add-tag-2 : goal.overflow_add-tag-2
-overflow_add-tag-2 c = omega (arith, (below _ _ _ _ _ _ c.requires.held c.requires.writable).0)
-
-pub overflow_mul-rows : goal.overflow_mul-rows
-overflow_mul-rows c = omega (arith, (below _ _ _ _ _ _ c.requires.held c.requires.writable).1)
-
-pub overflow_mul-rows-2 : goal.overflow_mul-rows-2
-overflow_mul-rows-2 c = omega (arith, (below _ _ _ _ _ _ c.requires.held c.requires.writable).1)
-
 pub put_pair-requires : goal.put_pair-requires
 put_pair-requires c = (simp length-set (omega (arith, c.requires.room)), omega (arith, (below _ _ _ _ _ _ c.requires.held c.requires.writable).1))
 
@@ -40,13 +25,6 @@ write_row-requires c =
     let l = c.loop-i in
     let k : length c.put_pair.new.out ≡ length c.args.out.now = ap length c.put_pair.ensures ∙ simp length-set in
     record { held = c.requires.held; writable = c.requires.writable; row = c.loop-i-test.true; room = omega (arith, l.invariant.1, c.requires.room) }
-
-pub overflow_add-i : goal.overflow_add-i
-overflow_add-i c =
-    omega (arith, c.loop-i-test.true, c.requires.writable.most, c.requires.held.range.states_most)
-
-pub loop-i-smaller : goal.loop-i-smaller
-loop-i-smaller c = omega (arith, c.loop-i-test.true)
 
 pub loop-i-preserved : goal.loop-i-preserved
 loop-i-preserved c =
