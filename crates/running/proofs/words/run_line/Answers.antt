@@ -30,13 +30,13 @@ field_of-marks-requires c = good c.in-Accepted.is c.judge-judged.ensures
 pub field_of-nexts-requires : goal.field_of-nexts-requires
 field_of-nexts-requires c = good c.in-Accepted.is c.judge-judged.ensures
 
-pub walk_line-state-requires : goal.walk_line-state-requires
-walk_line-state-requires c =
-    let z = c.in-Accepted.sizes in record {
-      held = subst (Held z.states z.signs z.start) (sym (nexts_handed z c.field_of-nexts.ensures)) (held _ z (good c.in-Accepted.is c.judge-judged.ensures));
-      signs = c.if-sizes-ne47.false;
-      plan = subst SignPlan (sym c.sign_plan-plan.ensures) plan_1;
-    }
+pub walk_line-state-requires-clause-held : goal.walk_line-state-requires-clause-held
+walk_line-state-requires-clause-held c =
+    let z = c.in-Accepted.sizes in
+    subst (Held z.states z.signs z.start) (sym (nexts_handed z c.field_of-nexts.ensures)) (held _ z (good c.in-Accepted.is c.judge-judged.ensures))
+
+pub walk_line-state-requires-clause-plan : goal.walk_line-state-requires-clause-plan
+walk_line-state-requires-clause-plan c = subst SignPlan (sym c.sign_plan-plan.ensures) plan_1
 
 pub mark_of-requires : goal.mark_of-requires
 mark_of-requires c =

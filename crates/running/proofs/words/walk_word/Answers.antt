@@ -10,8 +10,7 @@ use Rattle.counting.specs.Lists.{at}
 use Rattle.counting.proofs.Leasts.{least_first, least_unique}
 use Rattle.automaton.specs.Words.{steps}
 use Rattle.lending.specs.Pairs.{pair_at}
-use Rattle.table.specs.Encoding.{machine_in, Held}
-use Rattle.table.proofs.Readers.{next_within}
+use Rattle.table.specs.Encoding.{machine_in}
 use Rattle.running.specs.declared.words.Walk.TheVariants.{Stands}
 use Rattle.running.specs.Running.{bad_sign}
 use Rattle.running.proofs.Walking.{steps_more, steps_whole, walk_strange, walk_stands}
@@ -21,23 +20,12 @@ pub loop-i-init : goal.loop-i-init
 unfolding steps
 loop-i-init c = (omega arith, below_none _, (λ n. refl), λ n h. h.start-in)
 
-pub overflow_cast-a : goal.overflow_cast-a
-overflow_cast-a c = omega (arith, c.type_inv.word c.loop-i.i)
-
 pub returns-then-signs-a : goal.returns-then-signs-a
 unfolding bad_sign
 returns-then-signs-a c =
     let l = c.loop-i in
     let t = c.loop-i-test.true in
     sym (walk_strange _ _ l.i (least_first _ _ l.i t (le-leb _ _ (omega arith)) l.invariant.1) t)
-
-pub next_of-q-requires : goal.next_of-q-requires
-next_of-q-requires c =
-    let l = c.loop-i in
-    let b = c in
-    let z = b.args.sizes in
-    let h : Held z.states z.signs z.start b.args.nexts.now = b.requires in
-    omega (arith, h.long, next_within z.states z.signs l.q (at b.args.word.now l.i) (l.invariant.3 z.states h) c.if-signs-a.false)
 
 pub loop-i-preserved : goal.loop-i-preserved
 loop-i-preserved c =

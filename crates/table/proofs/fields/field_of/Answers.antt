@@ -1,14 +1,6 @@
 -- `table::fields::field_of` meets its contract: the part that `part_in` names, which lies within a right file.
-use mathlib.Core.Path.{subst}
-use Rattle.table.specs.declared.answer.Part.{Part}
-use Rattle.table.specs.Bodies.{PartOf}
 use Rattle.table.proofs.Places.{body_in_within}
 use Rattle.table.proofs.fields.field_of.Goals as goal
 
 pub slice_of-requires : goal.slice_of-requires
 slice_of-requires c = rw c.part_in-part.ensures (body_in_within _ _ c.requires)
-
-pub returns : goal.returns
-returns c =
-    subst (λ (p : Part). PartOf c.args.file p.place p.length c.slice_of.result) c.part_in-part.ensures
-    c.slice_of.ensures

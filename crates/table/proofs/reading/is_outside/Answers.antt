@@ -1,6 +1,4 @@
 -- `table::reading::is_outside` meets its contract: at each `return` the tests that led there decide `outside`.
-use native.Mathlib.Nat.{mul-le-mul}
-use native.Mathlib.Omega.{arith}
 use borrow.Author.Tests.{eq-eqb, ne_eqb, lt-ltb, le-ltb}
 use Rattle.table.specs.Judging.{outside}
 use Rattle.table.proofs.reading.is_outside.Goals as goal
@@ -21,9 +19,6 @@ pub returns-then-k-gt64 : goal.returns-then-k-gt64
 unfolding outside
 returns-then-k-gt64 c =
     rw (ne_eqb _ 0 c.if-n-eq0.false, le-ltb 1024 _ c.if-n-gt1024.false, ne_eqb _ 0 c.if-k-eq0.false, lt-ltb 64 _ c.if-k-gt64.true)
-
-pub overflow_mul-result : goal.overflow_mul-result
-overflow_mul-result c = omega (arith, mul-le-mul c.if-n-gt1024.false c.if-k-gt64.false)
 
 pub returns : goal.returns
 unfolding outside

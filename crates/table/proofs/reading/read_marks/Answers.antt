@@ -37,9 +37,6 @@ slice_bounds-first_bad_mark-end c =
     let f = opened c.in-Field.is c.read_field-second.ensures in
     omega (arith, f.place, f.stands.bodied)
 
-pub overflow_add-result : goal.overflow_add-result
-overflow_add-result c = omega (arith, (opened c.in-Field.is c.read_field-second.ensures).place)
-
 pub returns-then-bad-n : goal.returns-then-bad-n
 returns-then-bad-n c =
     let a = c.args in

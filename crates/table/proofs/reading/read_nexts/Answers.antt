@@ -39,9 +39,6 @@ slice_bounds-first_bad_next-end c =
     let f = opened c.in-Field.is c.read_field-third.ensures in
     omega (arith, f.place, f.stands.bodied)
 
-pub overflow_add-result : goal.overflow_add-result
-overflow_add-result c = omega (arith, (opened c.in-Field.is c.read_field-third.ensures).place)
-
 pub returns-then-bad-m : goal.returns-then-bad-m
 returns-then-bad-m c =
     let a = c.args in
