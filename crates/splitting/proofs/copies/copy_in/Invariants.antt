@@ -1,9 +1,6 @@
 -- `splitting::copies::copy_in` meets its contract. The loop's invariant: the first x numbers are put in, and all else is as it was.
-use Prim.Native.Nat.{ℕ, ◌≤◌, ◌-◌}
-use mathlib.Core.Path.{◌≡◌, subst}
-use native.Mathlib.Omega.{arith}
+use Prim.Native.Nat.{◌≤◌, ◌-◌}
 use Rattle.splitting.specs.Running.{PutIn}
-use Rattle.splitting.proofs.Copying.{put_none, put_more}
 use Rattle.splitting.proofs.copies.copy_in.Given as goal
 
 abbrev pub invariant-loop-x : goal.invariant-loop-x

@@ -1,8 +1,6 @@
 -- `splitting::copies::copy_out` meets its contract. The loop's invariant: the first x numbers are copied, and the rest is as it was.
-use Prim.Native.Nat.{ℕ, ◌≤◌, ◌-◌}
-use mathlib.Core.Path.{◌≡◌, subst}
-use native.Mathlib.Omega.{arith}
-use Rattle.splitting.proofs.Copying.{Copied, copied_none, copied_more, copied_all}
+use Prim.Native.Nat.{◌≤◌, ◌-◌}
+use Rattle.splitting.proofs.Copying.{Copied}
 use Rattle.splitting.proofs.copies.copy_out.Given as goal
 
 abbrev pub invariant-loop-x : goal.invariant-loop-x

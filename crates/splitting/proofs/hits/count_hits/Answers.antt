@@ -34,8 +34,8 @@ note_hit-requires-clause-within c =
     let z = a.sizes in
     let l = c.loop-x in
     let d = l.invariant.1 in
-    let class = class_in z.states a.work.now in
-    (class_within z.states l.x c.number_at.result class c.requires.classed c.loop-x-test.true (class_is z.states l.x a.work.now l.work c.number_at.result c.loop-x-test.true d.beyond c.number_at.ensures.value),
+    let class = class_in z.states a.work.now in (
+      class_within z.states l.x c.number_at.result class c.requires.classed c.loop-x-test.true (class_is z.states l.x a.work.now l.work c.number_at.result c.loop-x-test.true d.beyond c.number_at.ensures.value),
       omega (arith, looked_most (machine_in z.states z.signs z.start [] a.nexts.now) class a.q a.a a.work.now l.x l.entries l.work d),
     )
 
@@ -66,7 +66,7 @@ loop-x-preserved c =
     let M = machine_in z.states z.signs z.start [] a.nexts.now in
     let class = class_in z.states a.work.now in
     let lead_is : c.leads.result ≡ leads_to M class a.q a.a l.x =
-      (c.leads.ensures ∙ ap (λ (xs : List ℕ). leads_to M xs a.q a.a l.x) (counted_class M class a.q a.a a.work.now l.x l.entries l.work d (omega (arith, c.requires.room)))) in (
+    (c.leads.ensures ∙ ap (λ (xs : List ℕ). leads_to M xs a.q a.a l.x) (counted_class M class a.q a.a a.work.now l.x l.entries l.work d (omega (arith, c.requires.room)))) in (
       omega (arith, t),
       elim c.if-leads.branch [
         | then-leads w ↦

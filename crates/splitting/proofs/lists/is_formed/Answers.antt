@@ -1,6 +1,6 @@
 -- `splitting::lists::is_formed` meets its contract: each `return` is one of the ways out of the test of the four rules.
 use mathlib.Core.Path.{◌≡◌, sym, ap, ◌∙◌}
-use Prim.Native.Nat.{ℕ, ◌≤◌}
+use Prim.Native.Nat.{ℕ}
 use mathlib.Core.List.{List}
 use lib.Dec.{eqb}
 use Rattle.counting.specs.Lists.{at}

@@ -1,9 +1,6 @@
 -- `splitting::parts::adopt` meets its contract. The loop's invariant: the first x names are taken over, and the rest is as it was.
-use Prim.Native.Nat.{ℕ, ◌≤◌, ◌-◌}
-use mathlib.Core.Path.{◌≡◌, subst}
-use native.Mathlib.Omega.{arith}
+use Prim.Native.Nat.{◌≤◌, ◌-◌}
 use Rattle.splitting.specs.Parts.{Adopted}
-use Rattle.splitting.proofs.Adopting.{adopted_none, adopted_more}
 use Rattle.splitting.proofs.parts.adopt.Given as goal
 
 abbrev pub invariant-loop-x : goal.invariant-loop-x

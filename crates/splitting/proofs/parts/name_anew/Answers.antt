@@ -1,5 +1,5 @@
 -- `splitting::parts::name_anew` meets its contract: the stores leave the state named, where it stays and where it goes.
-use Prim.Native.Nat.{ℕ, ◌+◌, ◌*◌, ◌<◌}
+use Prim.Native.Nat.{ℕ}
 use mathlib.Core.Path.{◌≡◌, subst}
 use native.Mathlib.Omega.{arith}
 use lib.Dec.{eqb}

@@ -1,6 +1,4 @@
 -- `splitting::parts::share` meets its contract.
-use Prim.Native.Nat.{ℕ}
-use mathlib.Core.Path.{◌≡◌}
 use native.Mathlib.Omega.{arith}
 use Rattle.splitting.proofs.Sharing.{Fit, shared_none, first_ahead, part_ahead, shared_more}
 use Rattle.splitting.proofs.parts.share.Goals as goal

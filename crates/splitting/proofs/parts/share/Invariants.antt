@@ -1,9 +1,6 @@
 -- `splitting::parts::share` meets its contract. The loop's invariant: the classes below p are shared.
-use Prim.Native.Nat.{ℕ, ◌≤◌, ◌-◌}
-use mathlib.Core.Path.{◌≡◌, subst}
-use native.Mathlib.Omega.{arith}
+use Prim.Native.Nat.{◌≤◌, ◌-◌}
 use Rattle.splitting.specs.Parts.{Shared}
-use Rattle.splitting.proofs.Sharing.{Fit, shared_none, first_ahead, part_ahead, shared_more}
 use Rattle.splitting.proofs.parts.share.Given as goal
 
 abbrev pub invariant-loop-p : goal.invariant-loop-p

@@ -1,12 +1,8 @@
 -- `splitting::runs::first_waiting` meets its contract. The loop's invariant: the states passed don't wait.
 use Prim.Native.Nat.{ℕ, ◌≤◌, ◌<◌, ◌-◌}
-use mathlib.Core.Path.{◌≡◌, sym, ap, ◌∙◌}
+use mathlib.Core.Path.{◌≡◌}
 use mathlib.Core.Bool.{false, not}
-use native.Mathlib.Omega.{arith}
-use borrow.Author.Count.{below_more}
-use borrow.Author.Tests.{eq-eqb, ne_eqb}
 use lib.Dec.{eqb}
-use Rattle.counting.proofs.Leasts.{least_first, least_none}
 use Rattle.splitting.specs.Work.{pending_of}
 use Rattle.splitting.proofs.runs.first_waiting.Given as goal
 

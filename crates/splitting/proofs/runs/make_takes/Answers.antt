@@ -42,5 +42,5 @@ loop-takes-preserved c =
     let w = first_waits M c.args.work.now l.work l.takes l.entries l.low l.invariant.1 q.result q.ensures c.if-q-n.false in (
       omega (arith, c.loop-takes-test.true),
       subst (Progress _ _ _ _ _) (sym c.one_of-low.ensures)
-      (progress_more M c.args.work.now l.work l.takes l.entries l.low l.invariant.1 q.result w.0 w.1 (held_lawful [] c.requires.held) c.requires.held.range.states_most k.new.work k.result.entries k.ensures.taken k.result.split k.ensures.idle),
+          (progress_more M c.args.work.now l.work l.takes l.entries l.low l.invariant.1 q.result w.0 w.1 (held_lawful [] c.requires.held) c.requires.held.range.states_most k.new.work k.result.entries k.ensures.taken k.result.split k.ensures.idle),
     )

@@ -36,5 +36,5 @@ loop-q-preserved c =
       omega (arith, t),
       c.either-seen.ensures ∙ rw (add-one l.q) (ap₂ (λ (s : Bool) (m : ℕ). s || eqb m a.due) l.invariant.1 c.mark_of.ensures),
       filled_more a.signs a.due marks a.pending.now l.q c.one_of.result l.pending (omega (arith, t, l.invariant.2.long, c.requires.room.1))
-      (c.one_of.ensures ∙ ap (λ (w : Bool). pick w a.signs 0) waits_is) l.invariant.2,
+          (c.one_of.ensures ∙ ap (λ (w : Bool). pick w a.signs 0) waits_is) l.invariant.2,
     )
