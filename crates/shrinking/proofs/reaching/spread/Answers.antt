@@ -29,12 +29,6 @@ inside states signs start nexts h q a l t next e before work room long =
 pub loop-a-init : goal.loop-a-init
 loop-a-init c = (omega arith, spread_none _ _ _)
 
-pub next_of-next-requires : goal.next_of-next-requires
-next_of-next-requires c = (reads _ _ _ _ c.requires.held c.args.q c.loop-a.a c.requires.state c.loop-a-test.true).0
-
-pub number_at-requires : goal.number_at-requires
-number_at-requires c = (inside _ _ _ _ c.requires.held c.args.q c.loop-a.a c.requires.state c.loop-a-test.true _ c.next_of-next.ensures.value _ c.loop-a.work c.requires.room c.loop-a.invariant.1.long).1
-
 pub loop-a-preserved : goal.loop-a-preserved
 loop-a-preserved c =
     let l = c.loop-a in
