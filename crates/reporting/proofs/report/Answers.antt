@@ -20,34 +20,34 @@ pub returns-in_default-started : goal.returns-in_default-started
 returns-in_default-started c =
     let a = c.args in
     let o = out_start a.file.now a.work.now a.classes.now a.pending.now a.out.now (good c.in-Accepted.is c.judge-judged.ensures) c.layers-layered.ensures
-        (omega arith) (omega arith) c.in-Found.is c.fresh-started.ensures
-        c.in_default-started.is c.started_refusal.ensures in
+    (omega arith) (omega arith) c.in-Found.is c.fresh-started.ensures
+    c.in_default-started.is c.started_refusal.ensures in
     record { leaves = o.0; roomy = o.1 }
 
 pub returns-in_default-ran : goal.returns-in_default-ran
 returns-in_default-ran c =
     let a = c.args in
     let o = out_run a.file.now a.work.now a.classes.now a.pending.now a.out.now (good c.in-Accepted.is c.judge-judged.ensures) c.layers-layered.ensures
-        (omega arith) (omega arith) c.in-Found.is c.fresh-started.ensures
-        c.in-Fresh.is c.run-ran.ensures
-        c.in_default-ran.is c.ran_refusal.ensures in
+    (omega arith) (omega arith) c.in-Found.is c.fresh-started.ensures
+    c.in-Fresh.is c.run-ran.ensures
+    c.in_default-ran.is c.ran_refusal.ensures in
     record { leaves = o.0; roomy = o.1 }
 
 pub returns-in_default-shrunk : goal.returns-in_default-shrunk
 returns-in_default-shrunk c =
     let a = c.args in
     let o = out_shrink a.file.now a.work.now a.classes.now a.pending.now a.out.now (good c.in-Accepted.is c.judge-judged.ensures) c.layers-layered.ensures
-        (omega arith) (omega arith) c.in-Found.is c.fresh-started.ensures
-        c.in-Fresh.is c.run-ran.ensures
-        (omega arith) c.in-Made.is c.shrink-shrunk.ensures
-        c.in_default-shrunk.is c.shrinking_refusal.ensures in
+    (omega arith) (omega arith) c.in-Found.is c.fresh-started.ensures
+    c.in-Fresh.is c.run-ran.ensures
+    (omega arith) c.in-Made.is c.shrink-shrunk.ensures
+    c.in_default-shrunk.is c.shrinking_refusal.ensures in
     record { leaves = o.0; roomy = o.1 }
 
 pub returns : goal.returns
 returns c =
     let a = c.args in
     let o = out_made a.file.now a.work.now a.classes.now a.pending.now a.out.now (good c.in-Accepted.is c.judge-judged.ensures) c.layers-layered.ensures
-        (omega arith) (omega arith) c.in-Found.is c.fresh-started.ensures
-        c.in-Fresh.is c.run-ran.ensures
-        (omega arith) c.in-Made.is c.shrink-shrunk.ensures c.in-Made-shrunk.is in
+    (omega arith) (omega arith) c.in-Found.is c.fresh-started.ensures
+    c.in-Fresh.is c.run-ran.ensures
+    (omega arith) c.in-Made.is c.shrink-shrunk.ensures c.in-Made-shrunk.is in
     record { leaves = o.0; roomy = o.1 }

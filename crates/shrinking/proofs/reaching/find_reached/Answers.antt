@@ -1,21 +1,13 @@
 -- `shrinking::reaching::find_reached` meets its contract. The loop's invariant: the start and only reached states are marked; the rest is as it was.
 use mathlib.Core.Path.{refl, ◌∙◌}
 use mathlib.Core.List.{[]}
-use Rattle.lending.proofs.Memories.{cleared-length}
 use Rattle.table.proofs.Handing.{held_lawful}
 use Rattle.shrinking.proofs.Sweeping.{sound_start, start_long, start_beyond, found_quiet, fewer_unmarked}
-use native.Mathlib.Omega.{arith}
 use Rattle.shrinking.proofs.reaching.find_reached.Goals as goal
 
 pub loop-sizes-init : goal.loop-sizes-init
 loop-sizes-init c =
     (sound_start _ (held_lawful [] c.requires.held) c.args.work.now _ c.clear.ensures c.requires.room, refl, λ i k. refl)
-
-pub sweep-requires : goal.sweep-requires
-sweep-requires c =
-    let l = c.loop-sizes in
-    let f = start_long _ (held_lawful [] c.requires.held) c.args.work.now _ c.clear.ensures c.requires.room in
-    record { held = c.requires.held; room = omega (arith, l.invariant.1, f, c.requires.room); sound = l.invariant.0 }
 
 pub returns-then-not-sweep : goal.returns-then-not-sweep
 returns-then-not-sweep c =

@@ -9,11 +9,6 @@ use Rattle.shrinking.proofs.reaching.sweep.Goals as goal
 pub loop-q-init : goal.loop-q-init
 loop-q-init c = (omega arith, sweep_none _ (held_lawful [] c.requires.held) _ c.requires.sound)
 
-pub spread_marked-more-requires : goal.spread_marked-more-requires
-spread_marked-more-requires c =
-    let l = c.loop-q in
-    record { held = c.requires.held; room = omega (arith, l.invariant.1.long, c.requires.room); state = c.loop-q-test.true; small = l.invariant.1.sound.small }
-
 pub loop-q-preserved : goal.loop-q-preserved
 loop-q-preserved c =
     let l = c.loop-q in

@@ -1,5 +1,5 @@
 -- `shrinking::rows::flag_classes` meets its contract. The loop's invariant: the classes of the first q marked states are flagged.
-use Prim.Native.Nat.{ℕ, ◌+◌, ◌*◌, ◌-◌}
+use Prim.Native.Nat.{ℕ, ◌-◌}
 use mathlib.Core.Path.{◌≡◌, subst}
 use Rattle.shrinking.specs.Reached.{Flagged}
 use Rattle.shrinking.proofs.Flagging.{flags_none, flags_more}
@@ -8,12 +8,6 @@ use Rattle.shrinking.proofs.rows.flag_classes.Goals as goal
 
 pub loop-q-init : goal.loop-q-init
 loop-q-init c = (omega arith, flags_none _ _ c.requires.unflagged)
-
-pub flag_class-requires : goal.flag_class-requires
-flag_class-requires c =
-    let l = c.loop-q in
-    let t = c.loop-q-test.true in
-    record { room = (omega (arith, c.requires.room.0, l.invariant.1.long), c.requires.room.1); within = (t, rw (l.invariant.1.beyond (6 * c.args.n + l.q) (omega arith)) (c.requires.classed l.q t)) }
 
 pub loop-q-preserved : goal.loop-q-preserved
 loop-q-preserved c =

@@ -50,6 +50,11 @@ returns-in_default c =
     ap (λ (r : Refusal). left (refusal r) (a.work.now ∷ a.out.now ∷ [])) (c.refused_by.ensures ∙ ap refused_by e)
     ∙ shrink_refused a.file.now a.work.now a.out.now (sym c.judge-judged.ensures ∙ ap judgedTold e)
 
+pub overflow_mul-room : goal.overflow_mul-room
+overflow_mul-room c =
+    let g = good c.in-Accepted.is c.judge-judged.ensures in
+    omega (arith, g.range.states_most)
+
 pub returns-then-work-room : goal.returns-then-work-room
 returns-then-work-room c = shrink_narrow _ _ (good c.in-Accepted.is c.judge-judged.ensures) _ _ c.if-work-room.true
 
@@ -69,6 +74,17 @@ find_rows-rows-requires c =
       held = held_here _ _ z g (nexts_handed z c.field_of-nexts.ensures);
       room = omega (arith, c.if-work-room.false);
     }
+
+pub overflow_mul-length : goal.overflow_mul-length
+overflow_mul-length c = omega (arith, nexts_most _ _ _ _ _ _ _ _ (good c.in-Accepted.is c.judge-judged.ensures) c.find_rows-rows.ensures)
+
+pub overflow_mul-length-2 : goal.overflow_mul-length-2
+overflow_mul-length-2 c = omega (arith, nexts_most _ _ _ _ _ _ _ _ (good c.in-Accepted.is c.judge-judged.ensures) c.find_rows-rows.ensures)
+
+pub overflow_add-length-3 : goal.overflow_add-length-3
+overflow_add-length-3 c =
+    let g = good c.in-Accepted.is c.judge-judged.ensures in
+    omega (arith, nexts_most _ _ _ _ _ _ _ _ g c.find_rows-rows.ensures, c.find_rows-rows.ensures.writable.most, g.range.states_most)
 
 pub returns-then-out-length : goal.returns-then-out-length
 returns-then-out-length c =

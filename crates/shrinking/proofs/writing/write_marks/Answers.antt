@@ -11,10 +11,6 @@ use Rattle.shrinking.proofs.writing.write_marks.Goals as goal
 pub loop-i-init : goal.loop-i-init
 loop-i-init c = (omega arith, refl, marks_none _ _ _ _)
 
-pub mark_of-requires : goal.mark_of-requires
-mark_of-requires c =
-    omega (arith, c.number_at.ensures.value, c.requires.listed.1 c.loop-i.i c.loop-i-test.true)
-
 pub loop-i-preserved : goal.loop-i-preserved
 loop-i-preserved c =
     let l = c.loop-i in

@@ -1,30 +1,15 @@
 -- `shrinking::writing::write_rows` meets its contract. The loop's invariant: the next states of the first i rows are written.
-use Prim.Native.Nat.{ℕ, ◌+◌, ◌*◌, ◌≤◌, ◌-◌}
+use Prim.Native.Nat.{ℕ, ◌+◌, ◌-◌}
 use mathlib.Core.Path.{◌≡◌, refl, ap, ◌∙◌}
-use mathlib.Core.List.{List, []}
-use lib.ListN.{length, length-set}
+use lib.ListN.{length}
 use lib.Seq.{sets, length-sets}
-use Rattle.table.specs.Encoding.{machine_in, Held}
-use Rattle.shrinking.specs.Written.{Writable, rows_bytes}
-use Rattle.shrinking.proofs.Stores.{rows_none, rows_more, rows-length, field_stored, rows_most}
+use Rattle.shrinking.specs.Written.{rows_bytes}
+use Rattle.shrinking.proofs.Stores.{rows_none, rows_more, rows-length, field_stored}
 use native.Mathlib.Omega.{arith}
 use Rattle.shrinking.proofs.writing.write_rows.Goals as goal
 
--- all numbers are small
-below : (n k start : ℕ) (nexts work : List ℕ) (rows : ℕ) → Held n k start nexts → Writable (machine_in n k start [] nexts) rows work → (rows ≤ 1024) × (rows * k ≤ 32000)
-below n k start nexts work rows h w = (omega (arith, w.most, h.range.states_most), rows_most n k start nexts work rows h w)
-
-pub put_pair-requires : goal.put_pair-requires
-put_pair-requires c = (simp length-set (omega (arith, c.requires.room)), omega (arith, (below _ _ _ _ _ _ c.requires.held c.requires.writable).1))
-
 pub loop-i-init : goal.loop-i-init
 loop-i-init c = (omega arith, refl, rows_none _ _ _ _ _ _)
-
-pub write_row-requires : goal.write_row-requires
-write_row-requires c =
-    let l = c.loop-i in
-    let k : length c.put_pair.new.out ≡ length c.args.out.now = ap length c.put_pair.ensures ∙ simp length-set in
-    record { held = c.requires.held; writable = c.requires.writable; row = c.loop-i-test.true; room = omega (arith, l.invariant.1, c.requires.room) }
 
 pub loop-i-preserved : goal.loop-i-preserved
 loop-i-preserved c =
