@@ -1,4 +1,4 @@
--- `splitting::copies::copy_in` meets its contract. The loop's invariant: the first x numbers are put in, and all else is as it was.
+-- What the loop of `splitting::copies::copy_in` keeps: the first x numbers are put in, and all else is as it was.
 use Prim.Native.Nat.{◌≤◌, ◌-◌}
 use Rattle.splitting.specs.Running.{PutIn}
 use Rattle.splitting.proofs.copies.copy_in.Given as goal

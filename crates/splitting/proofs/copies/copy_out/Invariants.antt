@@ -1,4 +1,4 @@
--- `splitting::copies::copy_out` meets its contract. The loop's invariant: the first x numbers are copied, and the rest is as it was.
+-- What the loop of `splitting::copies::copy_out` keeps: the first x numbers are copied, and the rest is as it was.
 use Prim.Native.Nat.{◌≤◌, ◌-◌}
 use Rattle.splitting.proofs.Copying.{Copied}
 use Rattle.splitting.proofs.copies.copy_out.Given as goal

@@ -1,4 +1,4 @@
--- `splitting::hits::count_hits` meets its contract. The loop's invariant: the states before x are counted.
+-- What the loop of `splitting::hits::count_hits` keeps: the states before x are counted.
 use Prim.Native.Nat.{◌≤◌, ◌-◌}
 use mathlib.Core.List.{[]}
 use Rattle.table.specs.Encoding.{machine_in}

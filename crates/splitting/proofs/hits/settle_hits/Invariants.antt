@@ -1,4 +1,4 @@
--- `splitting::hits::settle_hits` meets its contract. The loop's invariant: the classes touched before place j are looked through.
+-- What the loop of `splitting::hits::settle_hits` keeps: the classes touched before place j are looked through.
 use Prim.Native.Nat.{◌≤◌, ◌-◌}
 use Rattle.splitting.proofs.Unleading.{Unleading}
 use Rattle.splitting.proofs.hits.settle_hits.Given as goal

@@ -1,4 +1,4 @@
--- `splitting::lists::ill_formed` meets its contract. The loop's invariant: the states passed keep the rules.
+-- What the loop of `splitting::lists::ill_formed` keeps: the states passed keep the rules.
 use Prim.Native.Nat.{ℕ, ◌≤◌, ◌<◌, ◌-◌}
 use mathlib.Core.Path.{◌≡◌}
 use mathlib.Core.Bool.{false, not}

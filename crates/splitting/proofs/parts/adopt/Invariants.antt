@@ -1,4 +1,4 @@
--- `splitting::parts::adopt` meets its contract. The loop's invariant: the first x names are taken over, and the rest is as it was.
+-- What the loop of `splitting::parts::adopt` keeps: the first x names are taken over, and the rest is as it was.
 use Prim.Native.Nat.{◌≤◌, ◌-◌}
 use Rattle.splitting.specs.Parts.{Adopted}
 use Rattle.splitting.proofs.parts.adopt.Given as goal

@@ -1,4 +1,4 @@
--- `splitting::parts::rename` meets its contract. The loop's invariant: the states below x are named anew.
+-- What the loop of `splitting::parts::rename` keeps: the states below x are named anew.
 use Prim.Native.Nat.{◌≤◌, ◌-◌}
 use mathlib.Core.List.{[]}
 use Rattle.table.specs.Encoding.{machine_in}

@@ -1,4 +1,4 @@
--- `splitting::runs::count_sizes` meets its contract. The loop's invariant: the first x states are counted.
+-- What the loop of `splitting::runs::count_sizes` keeps: the first x states are counted.
 use Prim.Native.Nat.{◌≤◌, ◌-◌}
 use Rattle.splitting.specs.Work.{class_in}
 use Rattle.splitting.proofs.Sizing.{Sizing}

@@ -1,4 +1,4 @@
--- `splitting::runs::first_waiting` meets its contract. The loop's invariant: the states passed don't wait.
+-- What the loop of `splitting::runs::first_waiting` keeps: the states passed don't wait.
 use Prim.Native.Nat.{ℕ, ◌≤◌, ◌<◌, ◌-◌}
 use mathlib.Core.Path.{◌≡◌}
 use mathlib.Core.Bool.{false, not}

@@ -1,4 +1,4 @@
--- `splitting::runs::make_takes` meets its contract. The loop's invariant: so far every take was made, and the work slice holds the lists of the run.
+-- What the loop of `splitting::runs::make_takes` keeps: so far every take was made, and the work slice holds the lists of the run.
 use Prim.Native.Nat.{◌-◌, ◌≤◌}
 use mathlib.Core.List.{[]}
 use Rattle.table.specs.Encoding.{machine_in}

@@ -1,4 +1,4 @@
--- `splitting::starts::count_accepting` meets its contract. The loop's invariant: the accepting states before q are counted.
+-- What the loop of `splitting::starts::count_accepting` keeps: the accepting states before q are counted.
 use Prim.Native.Nat.{◌≤◌, ◌-◌}
 use mathlib.Core.Path.{◌≡◌}
 use lib.Dec.{eqb}

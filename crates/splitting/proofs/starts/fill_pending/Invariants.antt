@@ -1,4 +1,4 @@
--- `splitting::starts::fill_pending` meets its contract. The loop's invariant: the pending of the states before q is written, and it is known whether one of them has the mark due.
+-- What the loop of `splitting::starts::fill_pending` keeps: the pending of the states before q is written, and it is known whether one of them has the mark due.
 use Prim.Native.Nat.{◌≤◌, ◌-◌}
 use mathlib.Core.Path.{◌≡◌}
 use lib.Dec.{eqb}
