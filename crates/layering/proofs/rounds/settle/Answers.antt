@@ -7,6 +7,12 @@ use Rattle.layering.proofs.Descent.{in_layer_named, round_small, round_settles, 
 use native.Mathlib.Omega.{arith}
 use Rattle.layering.proofs.rounds.settle.Goals as goal
 
+pub loop-sizes-preserved : goal.loop-sizes-preserved
+loop-sizes-preserved c =
+    let z = c.args.sizes in
+    let l = c.loop-sizes in
+    round_deepens z.states z.signs z.start (take z.states c.args.work.now) c.args.nexts.now c.requires.held c.args.work.now l.work l.i c.requires.room l.invariant _ _ _ c.if-not-changed.false c.run_round-changed.ensures c.advance.ensures
+
 pub overflow_add-next : goal.overflow_add-next
 overflow_add-next c =
     let z = c.args.sizes in
@@ -35,9 +41,3 @@ loop-sizes-smaller c =
     let z = c.args.sizes in
     let l = c.loop-sizes in
     omega (arith, round_unsettled z.states z.signs z.start (take z.states c.args.work.now) c.args.nexts.now c.requires.held c.args.work.now l.work l.i c.requires.room l.invariant _ _ c.if-not-changed.false c.run_round-changed.ensures)
-
-pub loop-sizes-preserved : goal.loop-sizes-preserved
-loop-sizes-preserved c =
-    let z = c.args.sizes in
-    let l = c.loop-sizes in
-    round_deepens z.states z.signs z.start (take z.states c.args.work.now) c.args.nexts.now c.requires.held c.args.work.now l.work l.i c.requires.room l.invariant _ _ _ c.if-not-changed.false c.run_round-changed.ensures c.advance.ensures
