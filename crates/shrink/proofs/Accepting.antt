@@ -3,7 +3,7 @@
 use Rattle.std.proofs.Common.{◌≡◌, ◌≤◌, ℕ, List, [], ◌∷◌, length, refl, sym}
 use Rattle.table.specs.Answers.{Said, gives, refuses, when_given}
 use Rattle.table.specs.Judging.{judged}
-use Rattle.table.specs.Leaving.{Left, left, on_file}
+use Rattle.table.specs.Leaving.{left, on_file}
 use Rattle.table.proofs.Leavings.{not_refused, left_said}
 use Rattle.table.proofs.Refusals.{accepted_exactly}
 use Rattle.shrinking.specs.Shrunk.{Accepted}

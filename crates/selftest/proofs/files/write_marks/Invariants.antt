@@ -1,5 +1,5 @@
 -- Invariant and measure of `write_marks`: the first q marks are written.
-use Rattle.std.proofs.Common.{◌≡◌, ◌+◌, ◌-◌, ◌≤◌, length, take}
+use Rattle.std.proofs.Common.{◌≡◌, ◌-◌, ◌≤◌, length, take}
 use Rattle.std.proofs.lemmas.List.Edits.{sets}
 use Rattle.selftest.proofs.files.write_marks.Given as goal
 
