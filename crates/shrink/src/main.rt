@@ -3,8 +3,8 @@
 #![tactic(auto)]
 
 ghost use Rattle.std.specs.Prelude.{◌≡◌, IfOk, IfSome, IsOk, OnOk, length, take};
-ghost use Rattle.std.specs.Io.KnownBytes.{Appends};
-ghost use Rattle.shrinking.specs.Shrunk.{shrunk};
+ghost use Rattle.std.specs.Io.KnownBytes.{Appends, Keeps};
+ghost use Rattle.shrinking.specs.Shrunk.{Accepted, shrunk};
 
 use shrinking::shrinks::Shrinking;
 use std::alloc::Global;
@@ -41,8 +41,11 @@ fn print_refusal(refusal: Refusal, errors: &impl Eprint) -> io::Result<()> {
     eprintln!(errors; "refused {number} {place}")
 }
 
-// Writes the shrunk file, or the line of the refusal.
-fn shrink_file<W: Write>(file: &[u8], output: &mut W, errors: &impl Eprint) -> io::Result<()> {
+// Writes the shrunk file of an accepted file, or the line of the refusal.
+fn shrink_file<W: Write>(file: &[u8], output: &mut W, errors: &impl Eprint) -> io::Result<()>
+    ensures accepted { Accepted file.now → OnOk result (Appends (W.contents output.old) (W.contents output.new) (shrunk file.now)) }
+    ensures refused { (Accepted file.now → ⊥) → Keeps (W.contents output.old) (W.contents output.new) }
+{
     let mut work = work_numbers();
     let mut out = out_bytes();
     let answer = shrinking::shrinks::shrink(file, &mut work, &mut out);

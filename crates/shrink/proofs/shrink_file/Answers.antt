@@ -1,7 +1,8 @@
--- What `shrink_file` hands to `write_shrunk` is the shrunk file: the front of what the shrinking call left in its bytes.
-use Rattle.std.proofs.Common.{sym}
+-- What `shrink_file` hands to `write_shrunk` is the shrunk file: the front of what the shrinking call left in its bytes. It is made of exactly the accepted files.
+use Rattle.std.proofs.Common.{sym, arith}
 use Rattle.std.proofs.Math.Seq.{length-take-le}
 use Rattle.shrinking.proofs.Making.{made_is}
+use Rattle.shrink.proofs.Accepting.{made_accepted, accepted_made}
 use Rattle.shrink.proofs.shrink_file.Goals as goal
 
 pub slice_bounds-out-end : goal.slice_bounds-out-end
@@ -12,3 +13,9 @@ slice_bounds-write_shrunk-end g c = sym (length-take-le _ _ (made_is _ _ _ c.in-
 
 pub write_shrunk-requires : goal.write_shrunk-requires
 write_shrunk-requires g c = (made_is _ _ _ c.in-Made.ensures).front
+
+pub returns-in-Made-clause-refused : goal.returns-in-Made-clause-refused
+returns-in-Made-clause-refused g c = λ refused. absurd (refused (made_accepted _ _ _ _ c.in-Made.ensures))
+
+pub returns-in-Refused-clause-accepted : goal.returns-in-Refused-clause-accepted
+returns-in-Refused-clause-accepted g c = λ accepted. absurd (accepted_made _ _ _ (omega arith) (omega arith) c.in-Refused.ensures accepted)

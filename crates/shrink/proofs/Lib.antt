@@ -1,0 +1,2 @@
+-- Which files are shrunk.
+pub mod Accepting
