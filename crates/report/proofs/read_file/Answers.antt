@@ -1,6 +1,6 @@
 -- What `read_file` leaves is the front of the input, as far as a reader tells what it holds.
 use Rattle.std.proofs.Common.{◌≡◌, IfSome, take, ℕ, List, [], ◌++◌, Option, None, Some, ap, ◌∙◌}
-use Rattle.core.specs.Option.{option_map}
+use Rattle.std.specs.Option.{option_map}
 use Rattle.report.proofs.read_file.Goals as goal
 
 front : (left : Option (List ℕ)) (before items : List ℕ) (n : ℕ) → before ≡ [] → n ≡ 65536 → IfSome (option_map (take n) left) (λ bytes. items ≡ before ++ bytes) → IfSome left (λ bytes. items ≡ take 65536 bytes)
