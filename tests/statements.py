@@ -28,7 +28,7 @@ def main():
             found = (ROOT / "crates" / crate / "must-fail" / quoted.split("/")[-1]).exists()
         elif "/" in quoted:
             found = any((base / quoted).exists() for base in (ROOT, ROOT / "crates", ROOT / "crates/table"))
-        elif re.fullmatch(r"[\w\-′]+", quoted):
+        elif re.fullmatch(r"[\w\-']+", quoted):
             found = quoted in names
         else:
             continue

@@ -1,5 +1,5 @@
 -- `shrinking::reaching::spread` meets its contract. The loop's invariant: the next states under the first a signs are marked.
-use Prim.Native.Nat.{ℕ, ◌<◌, ◌-◌}
+use Prim.Native.Nat.{ℕ, ◌<◌}
 use mathlib.Core.Path.{◌≡◌, ap, subst, ◌∙◌}
 use mathlib.Core.Bool.{◌||◌}
 use mathlib.Core.List.{[]}

@@ -1,5 +1,4 @@
 -- `shrinking::reaching::sweep` meets its contract. The loop's invariant: the sweep over the first q states.
-use Prim.Native.Nat.{◌-◌}
 use mathlib.Core.List.{[]}
 use Rattle.table.proofs.Handing.{held_lawful}
 use Rattle.shrinking.proofs.Sweeping.{sweep_none, sweep_more, sweep_done}

@@ -1,5 +1,5 @@
 -- `shrinking::rows::flag_classes` meets its contract. The loop's invariant: the classes of the first q marked states are flagged.
-use Prim.Native.Nat.{ℕ, ◌-◌}
+use Prim.Native.Nat.{ℕ}
 use mathlib.Core.Path.{◌≡◌, subst}
 use Rattle.shrinking.specs.Reached.{Flagged}
 use Rattle.shrinking.proofs.Flagging.{flags_none, flags_more}

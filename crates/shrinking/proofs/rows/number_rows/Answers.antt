@@ -1,5 +1,5 @@
 -- `shrinking::rows::number_rows` meets its contract. The loop's invariant: the flagged classes below c are numbered and listed.
-use Prim.Native.Nat.{ℕ, ◌-◌}
+use Prim.Native.Nat.{ℕ}
 use mathlib.Core.Path.{◌≡◌, subst}
 use Rattle.shrinking.specs.Reached.{Numbered}
 use Rattle.shrinking.proofs.Numbering.{numbers_none, rows_most, numbers_more}

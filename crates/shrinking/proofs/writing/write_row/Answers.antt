@@ -1,5 +1,5 @@
 -- `shrinking::writing::write_row` meets its contract. The loop's invariant: the next states under the first a signs are written.
-use Prim.Native.Nat.{ℕ, ◌+◌, ◌*◌, ◌-◌}
+use Prim.Native.Nat.{ℕ, ◌+◌, ◌*◌}
 use mathlib.Core.Path.{◌≡◌, refl, ap, ◌∙◌}
 use lib.ListN.{length}
 use lib.Seq.{sets, length-sets}

@@ -1,5 +1,5 @@
 -- `shrinking::writing::write_rows` meets its contract. The loop's invariant: the next states of the first i rows are written.
-use Prim.Native.Nat.{ℕ, ◌+◌, ◌-◌}
+use Prim.Native.Nat.{ℕ, ◌+◌}
 use mathlib.Core.Path.{◌≡◌, refl, ap, ◌∙◌}
 use lib.ListN.{length}
 use lib.Seq.{sets, length-sets}
