@@ -7,7 +7,8 @@ use native.Mathlib.Omega.{arith}
 use native.Mathlib.Decide.{dec_lt, ℕ_discrete}
 use borrow.Author.Tests.{eq-eqb, ne_eqb}
 use lib.Dec.{eqb}
-use Rattle.counting.specs.Least.{least, pick}
+use Rattle.std.specs.Prelude.{Some}
+use Rattle.counting.specs.Least.{least, pick, IsFirst}
 use Rattle.counting.specs.Counts.{any}
 use Rattle.counting.proofs.Cases.{neither}
 
@@ -58,6 +59,9 @@ least_unique n P i r = one (dec_lt i j) (dec_lt j i)
 -- the first that passes is the least
 pub least_first : (n : ℕ) (P : ℕ → Bool) (i : ℕ) → i < n → P i ≡ true → ((j : ℕ) → j < i → P j ≡ false) → least n P ≡ i
 least_first n P i l t b = least_unique n P i (record { within = omega arith; before = b; holds = λ h. t })
+
+pub first_least : {n : ℕ} {P : ℕ → Bool} (i : ℕ) → IsFirst n P (Some i) → least n P ≡ i
+first_least i f = least_first _ _ i f.0 f.1 f.2
 
 -- where none passes it is the bound
 pub least_none : (n : ℕ) (P : ℕ → Bool) → ((j : ℕ) → j < n → P j ≡ false) → least n P ≡ n

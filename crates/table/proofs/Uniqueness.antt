@@ -8,9 +8,9 @@ use denote.Ref.{Bor}
 use Rattle.table.specs.declared.answer.Kind.{Kind}
 use Rattle.table.specs.declared.answer.Kind.TheVariants.{Short, Tag, Behind, Length, Range, Start, Mark, Next, Line, Asked, Work, Room, Lists}
 use Rattle.table.specs.declared.answer.Refusal.{Refusal}
-use Rattle.table.specs.declared.answer.Judged.{Judged}
-use Rattle.table.specs.declared.answer.Judged.TheVariants.{Accepted, Refused as JudgedRefused}
-use Rattle.table.specs.Answers.{number_of, refusal, told}
+use Rattle.table.specs.declared.answer.Sizes.{Sizes}
+use Rattle.std.specs.Prelude.{Result, Ok, Err}
+use Rattle.table.specs.Answers.{number_of, refusal, said_by, told}
 use Rattle.table.specs.Judging.{judged}
 use Rattle.table.specs.Bodies.{FieldOf}
 
@@ -43,18 +43,25 @@ refusal_unique r s e =
     let p : r.place ≡ s.place = cc in
     λ i. record { kind = kind_unique r.kind s.kind m i; place = p i }
 
-pub told_unique : (r s : Judged) → told r ≡ told s → r ≡ s
-told_unique (Accepted y) (Accepted z) e =
-    let n : y.states ≡ z.states = cc in
-    let k : y.signs ≡ z.signs = cc in
-    let s : y.start ≡ z.start = cc in
-    λ i. Accepted (record { states = n i; signs = k i; start = s i })
-told_unique (Accepted y) (JudgedRefused s) e = let z : ◌≡◌ {A = ℕ} 0 1 = cc in absurd (omega arith)
-told_unique (JudgedRefused r) (Accepted z) e = let z : ◌≡◌ {A = ℕ} 0 1 = cc in absurd (omega arith)
-told_unique (JudgedRefused r) (JudgedRefused s) e = ap JudgedRefused (refusal_unique r s e)
+-- what a call answers is told one to one, where its values are
+pub said_unique : {A : Type 0} (values : A → List ℕ) → ((x y : A) → values x ≡ values y → x ≡ y) → (r s : Result A Refusal) → said_by values r ≡ said_by values s → r ≡ s
+said_unique values one (Ok x) (Ok y) e = ap Ok (one x y cc)
+said_unique values one (Ok x) (Err s) e = let z : ◌≡◌ {A = ℕ} 0 1 = cc in absurd (omega arith)
+said_unique values one (Err r) (Ok y) e = let z : ◌≡◌ {A = ℕ} 0 1 = cc in absurd (omega arith)
+said_unique values one (Err r) (Err s) e = ap Err (refusal_unique r s e)
+
+pub told_unique : (r s : Result Sizes Refusal) → told r ≡ told s → r ≡ s
+told_unique = said_unique _ one
+  where
+    one : (y z : Sizes) → (y.states ∷ y.signs ∷ y.start ∷ []) ≡ (z.states ∷ z.signs ∷ z.start ∷ []) → y ≡ z
+    one y z e =
+        let n : y.states ≡ z.states = cc in
+        let k : y.signs ≡ z.signs = cc in
+        let s : y.start ≡ z.start = cc in
+        λ i. record { states = n i; signs = k i; start = s i }
 
 -- `judge` has one answer
-pub judge_unique : (file : List ℕ) (r s : Judged) → told r ≡ judged file → told s ≡ judged file → r ≡ s
+pub judge_unique : (file : List ℕ) (r s : Result Sizes Refusal) → told r ≡ judged file → told s ≡ judged file → r ≡ s
 judge_unique file r s e f = told_unique r s (e ∙ sym f)
 
 -- `field` has one answer: the bytes and where they stand

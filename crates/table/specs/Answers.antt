@@ -1,12 +1,10 @@
--- Answers as the paper has them: values, or the number and place of a refusal; and each answer enum taken to that.
-use Rattle.std.specs.Prelude.{ℕ, List, [], ◌∷◌}
+-- Answers as the paper has them: values, or the number and place of a refusal; and what a call answers taken to that.
+use Rattle.std.specs.Prelude.{ℕ, List, [], ◌∷◌, Result, Ok, Err}
 use Rattle.table.specs.declared.answer.Kind.{Kind}
 use Rattle.table.specs.declared.answer.Kind.TheVariants.{Short, Tag, Behind, Length, Range, Start, Mark, Next, Line, Asked, Work, Room, Lists}
 use Rattle.table.specs.declared.answer.Refusal.{Refusal}
-use Rattle.table.specs.declared.answer.Judged.{Judged}
-use Rattle.table.specs.declared.answer.Judged.TheVariants.{Accepted, Refused as JudgedRefused}
-use Rattle.table.specs.declared.answer.Step.{Step}
-use Rattle.table.specs.declared.answer.Step.TheVariants.{Field, Refused as StepRefused}
+use Rattle.table.specs.declared.answer.Sizes.{Sizes}
+use Rattle.table.specs.declared.answer.Part.{Part}
 
 -- An answer: the paper's values, or the refusal's number and place.
 pub data Said : Type 0 where
@@ -38,22 +36,15 @@ number_of Lists = 13
 abbrev pub refusal : Refusal → Said
 refusal r = refuses (number_of r.kind) r.place
 
+-- what a call answers: the values of what it gives, or the refusal
+abbrev pub said_by : {A : Type 0} → (A → List ℕ) → Result A Refusal → Said
+said_by values (Ok x) = gives (values x)
+said_by values (Err r) = refusal r
+
 -- the judgement of a file: n, k and start, or the refusal
-abbrev pub told : Judged → Said
-told (Accepted z) = gives (z.states ∷ z.signs ∷ z.start ∷ [])
-told (JudgedRefused r) = refusal r
+abbrev pub told : Result Sizes Refusal → Said
+told = said_by (λ z. z.states ∷ z.signs ∷ z.start ∷ [])
 
 -- a reading step: where the field's body starts and its length, or the refusal
-abbrev pub told_step : Step → Said
-told_step (Field p) = gives (p.place ∷ p.length ∷ [])
-told_step (StepRefused r) = refusal r
-
--- the refusal of a step; of a step that gives a field it is never asked
-abbrev pub refusal_of : Step → Refusal
-refusal_of (Field p) = record { kind = Short; place = 0 }
-refusal_of (StepRefused r) = r
-
--- the refusal of a judgement; of one that accepts it is never asked
-abbrev pub refused_by : Judged → Refusal
-refused_by (Accepted z) = record { kind = Short; place = 0 }
-refused_by (JudgedRefused r) = r
+abbrev pub told_part : Result Part Refusal → Said
+told_part = said_by (λ p. p.place ∷ p.length ∷ [])

@@ -29,6 +29,11 @@ pub record Held (n k start : ℕ) (nexts : List ℕ) : Type 0 where
   pub start-in : start < n
   pub next_in : (q a : ℕ) → q < n → a < k → pair_at nexts (2 * (q * k + a)) < n
 
+-- The body of field 2 of an accepted file: at most as many marks as a table may have states, each 0 or 1.
+pub record Marked (marks : List ℕ) : Type 0 where
+  pub few : length marks ≤ 1024
+  pub small : (q : ℕ) → q < length marks → get_or marks q 0 < 2
+
 -- A machine that a file can hold: lawful, its sizes in range, its kinds marks.
 pub record MachineInRange (M : Machine) : Type 0 where
   pub lawful : Lawful M

@@ -6,3 +6,4 @@ pub mod Bodies
 pub mod Encoding
 pub mod Accepted
 pub mod Leaving
+pub mod Tables

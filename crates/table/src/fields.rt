@@ -1,40 +1,33 @@
-// The fields of a file: where the body of each stands, the part of the file that it is, and the marks and next states in it.
-ghost use Rattle.std.specs.Prelude.{◌≡◌, ◌+◌, ◌*◌, ◌<◌, ◌≤◌, length, get_or};
-ghost use Rattle.lending.specs.Pairs.{pair_at};
+// The fields of a file: where the body of each stands, the part of the file that it is, and the table that they make.
+ghost use Rattle.std.specs.Prelude.{◌≡◌, ◌+◌, ◌≤◌, length};
 ghost use Rattle.table.specs.Rows.{InRange};
 ghost use Rattle.table.specs.Accepted.{Good};
 ghost use Rattle.table.specs.Bodies.{body_in, body_of, PartOf, FieldOf};
+ghost use Rattle.table.specs.Tables.{TableIn};
 
-use crate::answer::{Judged, Part, Sizes};
+use crate::answer::{Part, Refusal, Sizes};
 use crate::judging::judge;
-use lending::pair_at;
+use crate::tables::{Marks, NextStates, Table};
 
 // Where the body of a field stands, of a file of these sizes, which the judging gave.
 pub fn part_in(sizes: Sizes, number: usize) -> Part
     requires { InRange sizes.states sizes.signs }
     ensures { result ≡ body_in sizes.states sizes.signs number }
 {
-    if number == 1 {
-        return Part {
+    match number {
+        1 => Part {
             place: 3,
             length: 6,
-        };
-    }
-    if number == 2 {
-        return Part {
+        },
+        2 => Part {
             place: 12,
             length: sizes.states,
-        };
-    }
-    if number == 3 {
-        return Part {
+        },
+        3 => Part {
             place: 12 + sizes.states + 3,
             length: 2 * (sizes.states * sizes.signs),
-        };
-    }
-    Part {
-        place: 0,
-        length: 0,
+        },
+        _ => Part::default(),
     }
 }
 
@@ -42,14 +35,10 @@ pub fn part_in(sizes: Sizes, number: usize) -> Part
 pub fn part_of(file: &[u8], number: usize) -> Part
     ensures { result ≡ body_of file.now number }
 {
-    let judged = judge(file);
-    let Judged::Accepted(sizes) = judged else {
-        return Part {
-            place: 0,
-            length: 0,
-        };
-    };
-    part_in(sizes, number)
+    match judge(file) {
+        Ok(sizes) => part_in(sizes, number),
+        Err(_) => Part::default(),
+    }
 }
 
 // A part of the file, handed back.
@@ -83,19 +72,17 @@ pub fn field(file: &[u8], number: usize) -> &[u8]
     slice_of(file, place, size)
 }
 
-// The mark of a state, in the body of field 2.
-pub fn mark_of(marks: &[u8], q: usize) -> u8
-    requires { q < length marks.now }
-    ensures { result ≡ get_or marks.now q 0 }
+// The table in a file, or the refusal of the file. Judges once.
+pub fn table_in(file: &[u8]) -> Result<Table<'_>, Refusal>
+    ensures { TableIn file.now result }
 {
-    marks[q]
-}
-
-// The next state of a state under a sign, in the body of field 3.
-pub fn next_of(nexts: &[u8], signs: usize, q: usize, a: usize) -> usize
-    requires { 2 * (q * signs + a) + 1 < length nexts.now }
-    ensures value { result ≡ pair_at nexts.now (2 * (q * signs + a)) }
-    ensures small { result < 65536 }
-{
-    pair_at(nexts, 2 * (q * signs + a))
+    let sizes = judge(file)?;
+    let marks = Marks {
+        bytes: field_of(file, sizes, 2),
+    };
+    let nexts = NextStates {
+        sizes,
+        bytes: field_of(file, sizes, 3),
+    };
+    Ok(Table { marks, nexts })
 }

@@ -1,7 +1,8 @@
-// The table file: its refusals, the one judgement of it, its fields, and the marks and next states that stand in them.
+// The table file: its refusals, the one judgement of it, its fields, and the table that stands in them.
 #![tactic(auto)]
 
 pub mod answer;
 pub mod fields;
 pub mod judging;
 pub mod reading;
+pub mod tables;
