@@ -5,7 +5,7 @@ ghost use Rattle.counting.specs.Least.{pick};
 ghost use Rattle.layering.specs.Layered.{FirstNamed, Unborn, Begun};
 
 use lending::one_of;
-use table::fields::mark_of;
+use table::tables::Marks;
 
 // The first state of a mark among one state more: it stays where that state has the mark, and goes past it where there was none before.
 fn past(x: usize, q: usize, here: bool) -> usize
@@ -22,21 +22,19 @@ fn past(x: usize, q: usize, here: bool) -> usize
 }
 
 // Names each state by the first state of its mark.
-pub fn mark_names(marks: &[u8], names: &mut [u16], n: usize)
-    requires marked { (length marks.now ≡ n) × ((q : ℕ) → q < n → at marks.now q < 2) }
-    requires room { (n ≤ length names.old) × (n ≤ 1024) }
-    ensures { FirstNamed marks.now n names.old names.new }
+pub fn mark_names(marks: &Marks<'_>, names: &mut [u16])
+    requires { length marks.now.bytes.now ≤ length names.old }
+    ensures { FirstNamed marks.now.bytes.now (length marks.now.bytes.now) names.old names.new }
 {
+    let n = marks.bytes.len();
     let mut zero = 0;
     let mut one = 0;
-    let mut q = 0;
-    while q < n {
-        let plain = mark_of(marks, q) == 0;
+    for q in 0..n {
+        let plain = marks.mark_of(q) == 0;
         let name = one_of(plain, zero, one);
         names[q] = name as u16;
         zero = past(zero, q, plain);
         one = past(one, q, !plain);
-        q += 1;
     }
 }
 
@@ -54,11 +52,10 @@ fn clear_births(work: &mut [u16], n: usize)
 }
 
 // Names each state by the first state of its mark, and notes that these names are born in layer 0.
-pub fn first_names(marks: &[u8], work: &mut [u16], n: usize)
-    requires marked { (length marks.now ≡ n) × ((q : ℕ) → q < n → at marks.now q < 2) }
-    requires room { (6 * n ≤ length work.old) × (n ≤ 1024) }
-    ensures { Begun n marks.now work.old work.new }
+pub fn first_names(marks: &Marks<'_>, work: &mut [u16])
+    requires { 6 * length marks.now.bytes.now ≤ length work.old }
+    ensures { Begun (length marks.now.bytes.now) marks.now.bytes.now work.old work.new }
 {
-    mark_names(marks, work, n);
-    clear_births(work, n);
+    mark_names(marks, work);
+    clear_births(work, marks.bytes.len());
 }

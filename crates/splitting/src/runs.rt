@@ -4,7 +4,7 @@ ghost use Rattle.counting.specs.Lists.{at};
 ghost use Rattle.counting.specs.Least.{least};
 ghost use Rattle.counting.specs.Counts.{count};
 ghost use Rattle.refining.specs.Lists.{WellFormed};
-ghost use Rattle.table.specs.Encoding.{machine_in, Held};
+ghost use Rattle.table.specs.Tables.{unmarked};
 ghost use Rattle.table.specs.Leaving.{left};
 ghost use Rattle.splitting.specs.Work.{lists_in, class_in, pending_of, size_of, Classed, Ready};
 ghost use Rattle.splitting.specs.Running.{RanIn};
@@ -14,21 +14,15 @@ use crate::copies::{copy_in, copy_out};
 use crate::lists::ill_formed;
 use crate::taking::take_one;
 use lending::{clear, number_at, one_of};
-use table::answer::{Judged, Kind, Refusal, Sizes, refused_by};
-use table::fields::field_of;
-use table::judging::judge;
+use table::answer::{Kind, Refusal};
+use table::fields::table_in;
+use table::tables::NextStates;
 
 // Takes made and entries looked at.
-#[derive(Clone, Copy)]
+#[derive(Clone, Copy, Debug, PartialEq, Eq)]
 pub struct Tally {
     pub takes: usize,
     pub entries: usize,
-}
-
-#[derive(Clone, Copy)]
-pub enum Ran {
-    Made(Tally),
-    Refused(Refusal),
 }
 
 // Counts the states of each class.
@@ -110,14 +104,13 @@ fn make_takes(nexts: &[u8], sizes: Sizes, budget: usize, work: &mut [u16]) -> Ta
 }
 
 // Makes takes until the budget is used or nothing waits, on the lists in the work slice.
-pub fn run_takes(nexts: &[u8], sizes: Sizes, budget: usize, work: &mut [u16]) -> Tally
-    requires held { Held sizes.states sizes.signs sizes.start nexts.now }
-    requires room { (8 * sizes.states ≤ length work.old) × (budget ≤ 65535) }
-    requires formed { WellFormed sizes.states sizes.signs (lists_in sizes.states work.old) }
-    ensures { RanIn (machine_in sizes.states sizes.signs sizes.start [] nexts.now) budget work.old work.new result.takes result.entries }
+pub fn run_takes(nexts: &NextStates<'_>, budget: usize, work: &mut [u16]) -> Tally
+    requires room { (8 * nexts.now.sizes.states ≤ length work.old) × (budget ≤ 65535) }
+    requires formed { WellFormed nexts.now.sizes.states nexts.now.sizes.signs (lists_in nexts.now.sizes.states work.old) }
+    ensures { RanIn (unmarked nexts.now) budget work.old work.new result.takes result.entries }
 {
-    make_ready(work, sizes.states);
-    make_takes(nexts, sizes, budget, work)
+    make_ready(work, nexts.sizes.states);
+    make_takes(nexts, budget, work)
 }
 
 // A budget above 65,535 counts as 65,535.

@@ -99,16 +99,15 @@ pub fn fresh(file: &[u8], class: &mut [u16], pending: &mut [u16]) -> Started
 }
 
 // The fresh lists in the work slice: the classes from 6 × n on, and what waits from 7 × n on.
-pub fn start_in(marks: &[u8], sizes: Sizes, work: &mut [u16])
-    requires marked { (length marks.now ≡ sizes.states) × ((q : ℕ) → q < sizes.states → at marks.now q < 2) }
-    requires small { (sizes.states ≤ 1024) × (sizes.signs ≤ 64) }
-    requires room { 8 * sizes.states ≤ length work.old }
-    ensures { StartedIn sizes.states sizes.signs marks.now work.old work.new }
+pub fn start_in(marks: &Marks<'_>, signs: usize, work: &mut [u16])
+    requires small { signs ≤ 64 }
+    requires room { 8 * length marks.now.bytes.now ≤ length work.old }
+    ensures { StartedIn (length marks.now.bytes.now) signs marks.now.bytes.now work.old work.new }
 {
-    let n = sizes.states;
+    let n = marks.bytes.len();
     let classes = 6 * n;
     let pending = 7 * n;
     let end = 8 * n;
-    mark_names(marks, &mut work[classes..pending], n);
-    fill_fresh(marks, &mut work[pending..end], n, sizes.signs);
+    mark_names(marks, &mut work[classes..pending]);
+    fill_fresh(marks, &mut work[pending..end], signs);
 }
