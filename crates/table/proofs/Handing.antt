@@ -11,7 +11,7 @@ use Rattle.counting.specs.Least.{pick}
 use Rattle.automaton.specs.Machine.{Machine, Lawful}
 use Rattle.table.specs.declared.answer.Sizes.{Sizes}
 use Rattle.table.specs.Bodies.{part, body_in, PartOf}
-use Rattle.table.specs.Encoding.{machine_in, machine_of, Held}
+use Rattle.table.specs.Encoding.{machine_in, machine_of, Held, Marked}
 use Rattle.table.specs.Accepted.{Good}
 use Rattle.table.proofs.Contents.{part_length}
 use Rattle.table.proofs.Encodings.{machine_in_range}
@@ -56,3 +56,6 @@ module _ (file : List ℕ) (z : Sizes) (g : Good file z) where
   marks_small q l =
       let m : (machine_in z.states z.signs z.start (marks_in file z) (nexts_in file z)).kind q ≤ 1 = subst (λ (M : Machine). q < M.size → M.kind q ≤ 1) (sym machine_is) ((machine_in_range file g.right).marks q) l in
       omega arith
+
+  pub marked : Marked (marks_in file z)
+  marked = record { few = omega (arith, marks_long, g.range.states_most); small = λ q l. marks_small q (omega (arith, marks_long)) }

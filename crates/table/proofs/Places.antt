@@ -16,6 +16,10 @@ use Rattle.table.specs.Rows.{Right}
 use Rattle.table.specs.Bodies.{nowhere, body_in, body_of}
 use Rattle.table.proofs.Outcomes.{Comes, refusing, giving, comes}
 
+-- the part that `Default` gives
+pub empty_part : (p : Part) → (p.place ≡ 0) × (p.length ≡ 0) → p ≡ nowhere
+empty_part p e = λ i. record { place = e.0 i; length = e.1 i }
+
 module _ (file : List ℕ) (number : ℕ) where
   pub body_of_given : {vs : List ℕ} → judged file ≡ gives vs → body_of file number ≡ body_in (states_of file) (signs_of file) number
   unfolding body_of when_given
