@@ -1,19 +1,22 @@
 // The report on a table: its sizes, the classes, and what a full splitting and the shrunk file come to.
 #![tactic(auto)]
 
+pub mod input;
+
 ghost use Rattle.std.specs.Prelude.{◌≡◌, [], ◌∷◌, length};
 ghost use Rattle.table.specs.Leaving.{left};
-ghost use Rattle.reporting.specs.Reports.{told, Roomy, Reported, report_leaves, layered_refusal, started_refusal, ran_refusal, shrinking_refusal};
+ghost use Rattle.reporting.specs.Reports.{told, Roomy, Reported, report_leaves};
 
-use layering::layers::{Layered, layers};
-use shrinking::shrinks::{Shrinking, shrink};
-use splitting::runs::{Ran, run};
-use splitting::starts::{Started, fresh};
-use table::answer::{Judged, Kind, Refusal, Sizes, refused_by};
+use layering::layers::layers;
+use shrinking::shrinks::shrink;
+use splitting::runs::run;
+use splitting::starts::fresh;
+use std::fmt;
+use table::answer::{Refusal, Sizes};
 use table::judging::judge;
 
 // n, k and start; m and r; takes and entries of a full splitting from fresh; rows of the shrunk file.
-#[derive(Clone, Copy)]
+#[derive(Clone, Copy, Debug, PartialEq, Eq)]
 pub struct Numbers {
     pub sizes: Sizes,
     pub classes: usize,
@@ -23,58 +26,12 @@ pub struct Numbers {
     pub rows: usize,
 }
 
-#[derive(Clone, Copy)]
-pub enum Summary {
-    Found(Numbers),
-    Refused(Refusal),
-}
-
-// The refusal of a call that does not answer.
-fn layered_refusal(answer: Layered) -> Refusal
-    ensures { result ≡ layered_refusal answer }
-{
-    match answer {
-        Layered::Refused(refusal) => refusal,
-        Layered::Found(_) => Refusal {
-            kind: Kind::Short,
-            place: 0,
-        },
-    }
-}
-
-fn started_refusal(answer: Started) -> Refusal
-    ensures { result ≡ started_refusal answer }
-{
-    match answer {
-        Started::Refused(refusal) => refusal,
-        Started::Fresh => Refusal {
-            kind: Kind::Short,
-            place: 0,
-        },
-    }
-}
-
-fn ran_refusal(answer: Ran) -> Refusal
-    ensures { result ≡ ran_refusal answer }
-{
-    match answer {
-        Ran::Refused(refusal) => refusal,
-        Ran::Made(_) => Refusal {
-            kind: Kind::Short,
-            place: 0,
-        },
-    }
-}
-
-fn shrinking_refusal(answer: Shrinking) -> Refusal
-    ensures { result ≡ shrinking_refusal answer }
-{
-    match answer {
-        Shrinking::Refused(refusal) => refusal,
-        Shrinking::Made(_) => Refusal {
-            kind: Kind::Short,
-            place: 0,
-        },
+impl fmt::Display for Numbers {
+    fn fmt<W: fmt::Write>(&self, f: &mut fmt::Formatter<W>) -> fmt::Result {
+        let sizes = self.sizes;
+        writeln!(f, "sizes {} {} {}", sizes.states, sizes.signs, sizes.start)?;
+        write!(f, "found {} {} ", self.classes, self.rounds)?;
+        write!(f, "{} {} {}", self.takes, self.entries, self.rows)
     }
 }
 
@@ -86,32 +43,17 @@ pub fn report(
     classes: &mut [u16],
     pending: &mut [u16],
     out: &mut [u8],
-) -> Summary
+) -> Result<Numbers, Refusal>
     ensures leaves { left (told result) (work.new ∷ classes.new ∷ pending.new ∷ out.new ∷ []) ≡ report_leaves file.now work.old classes.old pending.old out.old }
     ensures roomy { Roomy (length work.old) (length classes.old) (length pending.old) (length out.old) → Reported file.now (told result) classes.new }
 {
-    let judged = judge(file);
-    let Judged::Accepted(sizes) = judged else {
-        return Summary::Refused(refused_by(judged));
-    };
-    let layered = layers(file, work, classes);
-    let Layered::Found(counts) = layered else {
-        return Summary::Refused(layered_refusal(layered));
-    };
-    let started = fresh(file, classes, pending);
-    let Started::Fresh = started else {
-        return Summary::Refused(started_refusal(started));
-    };
-    let ran = run(file, 65535, classes, pending, work);
-    let Ran::Made(tally) = ran else {
-        return Summary::Refused(ran_refusal(ran));
-    };
-    let shrunk = shrink(file, work, out);
-    let Shrinking::Made(size) = shrunk else {
-        return Summary::Refused(shrinking_refusal(shrunk));
-    };
-    Summary::Found(Numbers {
-        sizes: sizes,
+    let sizes = judge(file)?;
+    let counts = layers(file, work, classes)?;
+    fresh(file, classes, pending)?;
+    let tally = run(file, 65535, classes, pending, work)?;
+    let size = shrink(file, work, out)?;
+    Ok(Numbers {
+        sizes,
         classes: counts.classes,
         rounds: counts.rounds,
         takes: tally.takes,

@@ -1,43 +1,27 @@
 // Asks the proved calls about a file, and says whether they answer what is due. The lent memory is enough for nine states.
-use layering::layers::{Layered, layers};
-use lending::number_at;
-use reporting::{Summary, report};
-use shrinking::shrinks::{Shrinking, shrink};
-use splitting::runs::{Ran, run};
+use layering::layers::{Counts, layers};
+use reporting::{Numbers, report};
+use shrinking::shrinks::shrink;
+use splitting::runs::{Tally, run};
 use splitting::starts::fresh;
-use table::answer::{Judged, number_of, refused_by};
+use table::answer::Refusal;
 use table::judging::judge;
-use telling::words::{Parting, tell};
-
-// Whether these numbers stand at the front.
-fn begins_with(found: &[u16], due: &[u16]) -> bool {
-    let mut i = 0;
-    while i < due.len() {
-        if i >= found.len() || found[i] != due[i] {
-            return false;
-        }
-        i += 1;
-    }
-    true
-}
+use telling::words::tell;
 
 // Whether the file is refused with this number at this place.
 pub(crate) fn is_refused(file: &[u8], number: usize, place: usize) -> bool {
-    let judged = judge(file);
-    let Judged::Refused(refusal) = judged else {
-        return false;
-    };
-    let kind = refusal.kind;
-    number_of(kind) == number && refusal.place == place
+    match judge(file) {
+        Ok(_) => false,
+        Err(refusal) => refusal.kind.number() == number && refusal.place == place,
+    }
 }
 
 // Whether the file is accepted, with n and k.
 pub(crate) fn is_accepted(file: &[u8], states: usize, signs: usize) -> bool {
-    let judged = judge(file);
-    let Judged::Accepted(sizes) = judged else {
-        return false;
-    };
-    sizes.states == states && sizes.signs == signs
+    match judge(file) {
+        Ok(sizes) => sizes.states == states && sizes.signs == signs,
+        Err(_) => false,
+    }
 }
 
 // Whether the layered call gives these class names, m and r.
@@ -45,37 +29,32 @@ pub(crate) fn classes_are(file: &[u8], names: &[u16], classes: usize, rounds: us
     let mut work = [0u16; 144];
     let mut found = [0u16; 9];
     let answer = layers(file, &mut work, &mut found);
-    let Layered::Found(counts) = answer else {
-        return false;
-    };
-    counts.classes == classes && counts.rounds == rounds && begins_with(&found, names)
+    answer == Ok(Counts { classes, rounds }) && found.starts_with(names)
 }
 
 // A full splitting from fresh lists.
-fn full_splitting(file: &[u8]) -> Ran {
+fn full_splitting(file: &[u8]) -> Result<Tally, Refusal> {
     let mut class = [0u16; 9];
     let mut pending = [0u16; 9];
     let mut work = [0u16; 144];
-    fresh(file, &mut class, &mut pending);
+    fresh(file, &mut class, &mut pending)?;
     run(file, 65535, &mut class, &mut pending, &mut work)
 }
 
 // Whether a full splitting makes so many takes.
 pub(crate) fn takes_are(file: &[u8], takes: usize) -> bool {
-    let ran = full_splitting(file);
-    let Ran::Made(tally) = ran else {
-        return false;
-    };
-    tally.takes == takes
+    match full_splitting(file) {
+        Ok(tally) => tally.takes == takes,
+        Err(_) => false,
+    }
 }
 
 // Whether a full splitting looks at so many entries.
 pub(crate) fn entries_are(file: &[u8], entries: usize) -> bool {
-    let ran = full_splitting(file);
-    let Ran::Made(tally) = ran else {
-        return false;
-    };
-    tally.entries == entries
+    match full_splitting(file) {
+        Ok(tally) => tally.entries == entries,
+        Err(_) => false,
+    }
 }
 
 // Whether a run of one take makes this many, and looks at so many entries.
@@ -87,24 +66,20 @@ fn one_take_is(
     entries: usize,
 ) -> bool {
     let mut work = [0u16; 144];
-    let ran = run(file, 1, class, pending, &mut work);
-    let Ran::Made(tally) = ran else {
-        return false;
-    };
-    tally.takes == takes && tally.entries == entries
+    run(file, 1, class, pending, &mut work) == Ok(Tally { takes, entries })
 }
 
 // Whether takes made one by one from fresh lists look at these entries, and none is left after them.
-pub(crate) fn takes_look_at(file: &[u8], entries: &[u16]) -> bool {
+pub(crate) fn takes_look_at(file: &[u8], due: &[usize]) -> bool {
     let mut class = [0u16; 9];
     let mut pending = [0u16; 9];
-    fresh(file, &mut class, &mut pending);
-    let mut i = 0;
-    while i < entries.len() {
-        if !one_take_is(file, &mut class, &mut pending, 1, number_at(entries, i)) {
+    if fresh(file, &mut class, &mut pending).is_err() {
+        return false;
+    }
+    for entries in due {
+        if !one_take_is(file, &mut class, &mut pending, 1, *entries) {
             return false;
         }
-        i += 1;
     }
     one_take_is(file, &mut class, &mut pending, 0, 0)
 }
@@ -114,72 +89,42 @@ pub(crate) fn part_by(file: &[u8], p: usize, q: usize, word: &[u8]) -> bool {
     let mut work = [0u16; 144];
     let mut found = [0u8; 9];
     let answer = tell(file, p, q, &mut work, &mut found);
-    let Parting::Apart(length) = answer else {
-        return false;
-    };
-    if length > found.len() {
-        return false;
-    }
-    &found[..length] == word
+    answer == Ok(Some(word.len())) && found.starts_with(word)
 }
 
 // Whether the two states are alike.
 pub(crate) fn are_alike(file: &[u8], p: usize, q: usize) -> bool {
     let mut work = [0u16; 144];
     let mut found = [0u8; 9];
-    let answer = tell(file, p, q, &mut work, &mut found);
-    match answer {
-        Parting::Alike => true,
-        _ => false,
-    }
+    tell(file, p, q, &mut work, &mut found) == Ok(None)
 }
 
 // Whether the file shrinks to these bytes.
 pub(crate) fn shrinks_to(file: &[u8], due: &[u8]) -> bool {
     let mut work = [0u16; 144];
     let mut out = [0u8; 64];
-    let answer = shrink(file, &mut work, &mut out);
-    let Shrinking::Made(size) = answer else {
-        return false;
-    };
-    let length = size.length;
-    if length > out.len() {
-        return false;
+    match shrink(file, &mut work, &mut out) {
+        Ok(size) => size.length == due.len() && out.starts_with(due),
+        Err(_) => false,
     }
-    &out[..length] == due
 }
 
 // Whether the shrunk file has so many rows.
 pub(crate) fn rows_are(file: &[u8], rows: usize) -> bool {
     let mut work = [0u16; 144];
     let mut out = [0u8; 64];
-    let answer = shrink(file, &mut work, &mut out);
-    let Shrinking::Made(size) = answer else {
-        return false;
-    };
-    size.rows == rows
+    match shrink(file, &mut work, &mut out) {
+        Ok(size) => size.rows == rows,
+        Err(_) => false,
+    }
 }
 
-// Whether the report has these numbers, n, k, start, m, r, takes, entries and rows, and these class names.
-pub(crate) fn report_is(file: &[u8], due: &[usize], names: &[u16]) -> bool {
-    if due.len() != 8 {
-        return false;
-    }
+// Whether the report has these numbers and these class names.
+pub(crate) fn report_is(file: &[u8], due: Numbers, names: &[u16]) -> bool {
     let mut class = [0u16; 9];
     let mut pending = [0u16; 9];
     let mut work = [0u16; 144];
     let mut out = [0u8; 64];
     let answer = report(file, &mut work, &mut class, &mut pending, &mut out);
-    let Summary::Found(found) = answer else {
-        return false;
-    };
-    found.sizes.states == due[0]
-        && found.sizes.signs == due[1]
-        && found.sizes.start == due[2]
-        && found.classes == due[3]
-        && found.rounds == due[4]
-        && found.takes == due[5]
-        && found.entries == due[6]
-        && found.rows == due[7]
-        && begins_with(&class, names)
+    answer == Ok(due) && class.starts_with(names)
 }

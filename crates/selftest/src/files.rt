@@ -5,8 +5,10 @@ ghost use Rattle.lending.specs.Memory.{written};
 ghost use Rattle.table.specs.Encoding.{encode};
 ghost use Rattle.selftest.specs.Samples.{sample, pairs, t1, t2, t3, single};
 
-use crate::samples;
-use lending::{number_at, put_pair};
+use crate::samples::{
+    SINGLE_MARKS, SINGLE_NEXTS, T1_MARKS, T1_NEXTS, T2_MARKS, T2_NEXTS, T3_MARKS, T3_NEXTS,
+};
+use lending::put_pair;
 use shrinking::writing::write_sizes;
 
 // Writes the marks behind the head of field 2.
@@ -14,12 +16,8 @@ fn write_marks(marks: &[u8], out: &mut [u8])
     requires room { 12 + length marks.now ≤ length out.old }
     ensures { out.new ≡ sets out.old 12 marks.now }
 {
-    let mut q = 0;
-    while q < marks.len() {
-        let place = 12 + q;
-        out[place] = marks[q];
-        q += 1;
-    }
+    let end = 12 + marks.len();
+    out[12..end].copy_from_slice(marks);
 }
 
 // Writes the next states from a place on, two bytes each.
@@ -27,12 +25,8 @@ fn write_nexts(nexts: &[u16], begin: usize, out: &mut [u8])
     requires room { begin + 2 * length nexts.now ≤ length out.old }
     ensures { out.new ≡ sets out.old begin (pairs nexts.now) }
 {
-    let mut place = begin;
-    let mut i = 0;
-    while i < nexts.len() {
-        put_pair(out, place, number_at(nexts, i));
-        place += 2;
-        i += 1;
+    for (i, next) in nexts.iter().enumerate() {
+        put_pair(out, begin + 2 * i, usize::from(*next));
     }
 }
 
@@ -53,42 +47,37 @@ pub fn write_table(marks: &[u8], nexts: &[u16], signs: usize, out: &mut [u8]) ->
     tag + 3 + body
 }
 
+// The file of a sample, which fills the array.
+fn file_of<const N: usize>(marks: &[u8], nexts: &[u16], signs: usize) -> [u8; N]
+    requires sizes { (length nexts.now ≡ length marks.now * signs) × (length marks.now ≤ 1024) × (signs ≤ 64) × (length nexts.now ≤ 32000) }
+    requires long { 12 + length marks.now + 3 + 2 * length nexts.now ≡ N }
+    ensures { result ≡ encode (sample signs marks.now nexts.now) }
+{
+    let mut file = [0u8; N];
+    write_table(marks, nexts, signs, &mut file);
+    file
+}
+
 pub fn t1_file() -> [u8; 40]
     ensures { result ≡ encode t1 }
 {
-    let marks = samples::t1_marks();
-    let nexts = samples::t1_nexts();
-    let mut file = [0u8; 40];
-    write_table(&marks, &nexts, 2, &mut file);
-    file
+    file_of(&T1_MARKS, &T1_NEXTS, 2)
 }
 
 pub fn t2_file() -> [u8; 60]
     ensures { result ≡ encode t2 }
 {
-    let marks = samples::t2_marks();
-    let nexts = samples::t2_nexts();
-    let mut file = [0u8; 60];
-    write_table(&marks, &nexts, 2, &mut file);
-    file
+    file_of(&T2_MARKS, &T2_NEXTS, 2)
 }
 
 pub fn t3_file() -> [u8; 45]
     ensures { result ≡ encode t3 }
 {
-    let marks = samples::t3_marks();
-    let nexts = samples::t3_nexts();
-    let mut file = [0u8; 45];
-    write_table(&marks, &nexts, 2, &mut file);
-    file
+    file_of(&T3_MARKS, &T3_NEXTS, 2)
 }
 
 pub fn single_file() -> [u8; 18]
     ensures { result ≡ encode single }
 {
-    let marks = samples::single_marks();
-    let nexts = samples::single_nexts();
-    let mut file = [0u8; 18];
-    write_table(&marks, &nexts, 1, &mut file);
-    file
+    file_of(&SINGLE_MARKS, &SINGLE_NEXTS, 1)
 }

@@ -2,18 +2,6 @@
 use Rattle.std.specs.Prelude.{[], ◌∷◌, get_or}
 use Rattle.table.specs.Answers.{Said, gives, refuses}
 use Rattle.table.specs.declared.answer.Part.{Part}
-use Rattle.running.specs.Running.{told}
-use Rattle.running.specs.declared.words.Ran.{Ran}
-use Rattle.layering.specs.Calls.{told as layersTold}
-use Rattle.layering.specs.declared.layers.Layered.{Layered}
-use Rattle.splitting.specs.StartCall.{told_start}
-use Rattle.splitting.specs.RunCall.{told_run}
-use Rattle.splitting.specs.declared.starts.Started.{Started}
-use Rattle.splitting.specs.declared.runs.Ran.{Ran as Takes}
-use Rattle.shrinking.specs.Calls.{told as shrinkTold}
-use Rattle.shrinking.specs.declared.shrinks.Shrinking.{Shrinking}
-use Rattle.telling.specs.Calls.{told as tellTold}
-use Rattle.telling.specs.declared.words.Parting.{Parting}
 use Rattle.wylgentip.specs.declared.words.WylRan.{WylRan}
 use Rattle.wylgentip.specs.declared.layers.WylLayered.{WylLayered}
 use Rattle.wylgentip.specs.declared.shrinks.WylShrunk.{WylShrunk}
@@ -37,16 +25,10 @@ abbrev pub flat_ran : Said → WylRan
 flat_ran (gives vs) = record { number = 0; place = 0; kind = get_or vs 0 0 }
 flat_ran (refuses number place) = record { number = number; place = place; kind = 0 }
 
-abbrev pub flat_of : Ran → WylRan
-flat_of ran = flat_ran (told ran)
-
 -- the layered call: m and r, or the refusal
 abbrev pub flat_layers : Said → WylLayered
 flat_layers (gives vs) = record { number = 0; place = 0; classes = get_or vs 0 0; rounds = get_or vs 1 0 }
 flat_layers (refuses number place) = record { number = number; place = place; classes = 0; rounds = 0 }
-
-abbrev pub layers_flat : Layered → WylLayered
-layers_flat answer = flat_layers (layersTold answer)
 
 -- the telling word: alike, or its length, or the refusal
 abbrev pub flat_tell : Said → WylTold
@@ -54,29 +36,17 @@ flat_tell (gives []) = record { number = 0; place = 0; apart = 0; length = 0 }
 flat_tell (gives (length ∷ vs)) = record { number = 0; place = 0; apart = 1; length = length }
 flat_tell (refuses number place) = record { number = number; place = place; apart = 0; length = 0 }
 
-abbrev pub tell_flat : Parting → WylTold
-tell_flat answer = flat_tell (tellTold answer)
-
 -- a fresh start: nothing but the lists, or the refusal
 abbrev pub flat_start : Said → WylStarted
 flat_start (gives vs) = record { number = 0; place = 0 }
 flat_start (refuses number place) = record { number = number; place = place }
-
-abbrev pub start_flat : Started → WylStarted
-start_flat answer = flat_start (told_start answer)
 
 -- a run: takes made and entries looked at, or the refusal
 abbrev pub flat_run : Said → WylTaken
 flat_run (gives vs) = record { number = 0; place = 0; takes = get_or vs 0 0; entries = get_or vs 1 0 }
 flat_run (refuses number place) = record { number = number; place = place; takes = 0; entries = 0 }
 
-abbrev pub run_flat : Takes → WylTaken
-run_flat answer = flat_run (told_run answer)
-
 -- the shrunk file: its rows and its length, or the refusal
 abbrev pub flat_shrink : Said → WylShrunk
 flat_shrink (gives vs) = record { number = 0; place = 0; rows = get_or vs 0 0; length = get_or vs 1 0 }
 flat_shrink (refuses number place) = record { number = number; place = place; rows = 0; length = 0 }
-
-abbrev pub shrink_flat : Shrinking → WylShrunk
-shrink_flat answer = flat_shrink (shrinkTold answer)

@@ -1,14 +1,14 @@
 // Classes by layers.
 ghost use Rattle.std.specs.Prelude.{◌≡◌, [], ◌∷◌};
-ghost use Rattle.layering.specs.Calls.{layers_leave};
-ghost use Rattle.wylgentip.specs.Flat.{flat_layers, layers_flat};
+ghost use Rattle.layering.specs.Calls.{told, layers_leave};
+ghost use Rattle.wylgentip.specs.Flat.{flat_layers};
 
-use layering::layers::{Layered, layers};
-use table::answer::number_of;
+use layering::layers::{Counts, layers};
+use table::answer::Refusal;
 
 // number 0: found, with m and r; else the refusal's number and place, and the rest is 0.
 #[repr(C)]
-#[derive(Clone, Copy)]
+#[derive(Clone, Copy, Default)]
 pub struct WylLayered {
     pub number: usize,
     pub place: usize,
@@ -16,24 +16,22 @@ pub struct WylLayered {
     pub rounds: usize,
 }
 
-fn layers_flat(answer: Layered) -> WylLayered
-    ensures { result ≡ layers_flat answer }
-{
-    match answer {
-        Layered::Found(counts) => WylLayered {
-            number: 0,
-            place: 0,
-            classes: counts.classes,
-            rounds: counts.rounds,
-        },
-        Layered::Refused(refusal) => {
-            let kind = refusal.kind;
-            WylLayered {
-                number: number_of(kind),
+impl From<Result<Counts, Refusal>> for WylLayered {
+    ghost from_gives = { λ answer flat. flat ≡ flat_layers (told answer) };
+
+    fn from(answer: Result<Counts, Refusal>) -> WylLayered {
+        match answer {
+            Ok(counts) => WylLayered {
+                number: 0,
+                place: 0,
+                classes: counts.classes,
+                rounds: counts.rounds,
+            },
+            Err(refusal) => WylLayered {
+                number: refusal.kind.number(),
                 place: refusal.place,
-                classes: 0,
-                rounds: 0,
-            }
+                ..WylLayered::default()
+            },
         }
     }
 }
@@ -44,5 +42,5 @@ pub extern "C" fn wyl_layers(file: &[u8], work: &mut [u16], classes: &mut [u16])
     ensures answer { result ≡ flat_layers (layers_leave file.now work.old classes.old).said }
     ensures lent { work.new ∷ classes.new ∷ [] ≡ (layers_leave file.now work.old classes.old).lent }
 {
-    layers_flat(layers(file, work, classes))
+    WylLayered::from(layers(file, work, classes))
 }

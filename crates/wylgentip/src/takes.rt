@@ -1,16 +1,16 @@
 // Classes by splitting: the fresh lists, and runs of takes.
 ghost use Rattle.std.specs.Prelude.{◌≡◌, [], ◌∷◌};
-ghost use Rattle.splitting.specs.StartCall.{start_leaves};
-ghost use Rattle.splitting.specs.RunCall.{run_leaves};
-ghost use Rattle.wylgentip.specs.Flat.{flat_start, start_flat, flat_run, run_flat};
+ghost use Rattle.splitting.specs.StartCall.{told_start, start_leaves};
+ghost use Rattle.splitting.specs.RunCall.{told_run, run_leaves};
+ghost use Rattle.wylgentip.specs.Flat.{flat_start, flat_run};
 
-use splitting::runs::{Ran, run};
-use splitting::starts::{Started, fresh};
-use table::answer::number_of;
+use splitting::runs::{Tally, run};
+use splitting::starts::fresh;
+use table::answer::Refusal;
 
 // number 0: the lists are fresh; else the refusal's number and place.
 #[repr(C)]
-#[derive(Clone, Copy)]
+#[derive(Clone, Copy, Default)]
 pub struct WylStarted {
     pub number: usize,
     pub place: usize,
@@ -18,7 +18,7 @@ pub struct WylStarted {
 
 // number 0: takes made and entries looked at; else the refusal's number and place, and the rest is 0.
 #[repr(C)]
-#[derive(Clone, Copy)]
+#[derive(Clone, Copy, Default)]
 pub struct WylTaken {
     pub number: usize,
     pub place: usize,
@@ -26,42 +26,36 @@ pub struct WylTaken {
     pub entries: usize,
 }
 
-fn start_flat(answer: Started) -> WylStarted
-    ensures { result ≡ start_flat answer }
-{
-    match answer {
-        Started::Fresh => WylStarted {
-            number: 0,
-            place: 0,
-        },
-        Started::Refused(refusal) => {
-            let kind = refusal.kind;
-            WylStarted {
-                number: number_of(kind),
+impl From<Result<(), Refusal>> for WylStarted {
+    ghost from_gives = { λ answer flat. flat ≡ flat_start (told_start answer) };
+
+    fn from(answer: Result<(), Refusal>) -> WylStarted {
+        match answer {
+            Ok(()) => WylStarted::default(),
+            Err(refusal) => WylStarted {
+                number: refusal.kind.number(),
                 place: refusal.place,
-            }
+            },
         }
     }
 }
 
-fn run_flat(answer: Ran) -> WylTaken
-    ensures { result ≡ run_flat answer }
-{
-    match answer {
-        Ran::Made(tally) => WylTaken {
-            number: 0,
-            place: 0,
-            takes: tally.takes,
-            entries: tally.entries,
-        },
-        Ran::Refused(refusal) => {
-            let kind = refusal.kind;
-            WylTaken {
-                number: number_of(kind),
+impl From<Result<Tally, Refusal>> for WylTaken {
+    ghost from_gives = { λ answer flat. flat ≡ flat_run (told_run answer) };
+
+    fn from(answer: Result<Tally, Refusal>) -> WylTaken {
+        match answer {
+            Ok(tally) => WylTaken {
+                number: 0,
+                place: 0,
+                takes: tally.takes,
+                entries: tally.entries,
+            },
+            Err(refusal) => WylTaken {
+                number: refusal.kind.number(),
                 place: refusal.place,
-                takes: 0,
-                entries: 0,
-            }
+                ..WylTaken::default()
+            },
         }
     }
 }
@@ -72,7 +66,7 @@ pub extern "C" fn wyl_fresh(file: &[u8], classes: &mut [u16], pending: &mut [u16
     ensures answer { result ≡ flat_start (start_leaves file.now classes.old pending.old).said }
     ensures lent { classes.new ∷ pending.new ∷ [] ≡ (start_leaves file.now classes.old pending.old).lent }
 {
-    start_flat(fresh(file, classes, pending))
+    WylStarted::from(fresh(file, classes, pending))
 }
 
 // A run of takes on the lent lists.
@@ -87,5 +81,5 @@ pub extern "C" fn wyl_run(
     ensures answer { result ≡ flat_run (run_leaves file.now budget classes.old pending.old work.old).said }
     ensures lent { classes.new ∷ pending.new ∷ work.new ∷ [] ≡ (run_leaves file.now budget classes.old pending.old work.old).lent }
 {
-    run_flat(run(file, budget, classes, pending, work))
+    WylTaken::from(run(file, budget, classes, pending, work))
 }

@@ -1,14 +1,14 @@
 // The word that tells two states apart.
 ghost use Rattle.std.specs.Prelude.{◌≡◌, [], ◌∷◌};
-ghost use Rattle.telling.specs.Calls.{tell_leaves};
-ghost use Rattle.wylgentip.specs.Flat.{flat_tell, tell_flat};
+ghost use Rattle.telling.specs.Calls.{told, tell_leaves};
+ghost use Rattle.wylgentip.specs.Flat.{flat_tell};
 
-use table::answer::number_of;
-use telling::words::{Parting, tell};
+use table::answer::Refusal;
+use telling::words::tell;
 
 // number 0: apart is 1 and length the word's, or apart is 0 and the states are alike; else the refusal's number and place, and the rest is 0.
 #[repr(C)]
-#[derive(Clone, Copy)]
+#[derive(Clone, Copy, Default)]
 pub struct WylTold {
     pub number: usize,
     pub place: usize,
@@ -16,30 +16,23 @@ pub struct WylTold {
     pub length: usize,
 }
 
-fn tell_flat(answer: Parting) -> WylTold
-    ensures { result ≡ tell_flat answer }
-{
-    match answer {
-        Parting::Alike => WylTold {
-            number: 0,
-            place: 0,
-            apart: 0,
-            length: 0,
-        },
-        Parting::Apart(length) => WylTold {
-            number: 0,
-            place: 0,
-            apart: 1,
-            length: length,
-        },
-        Parting::Refused(refusal) => {
-            let kind = refusal.kind;
-            WylTold {
-                number: number_of(kind),
+impl From<Result<Option<usize>, Refusal>> for WylTold {
+    ghost from_gives = { λ answer flat. flat ≡ flat_tell (told answer) };
+
+    fn from(answer: Result<Option<usize>, Refusal>) -> WylTold {
+        match answer {
+            Ok(None) => WylTold::default(),
+            Ok(Some(length)) => WylTold {
+                number: 0,
+                place: 0,
+                apart: 1,
+                length,
+            },
+            Err(refusal) => WylTold {
+                number: refusal.kind.number(),
                 place: refusal.place,
-                apart: 0,
-                length: 0,
-            }
+                ..WylTold::default()
+            },
         }
     }
 }
@@ -56,5 +49,5 @@ pub extern "C" fn wyl_tell(
     ensures answer { result ≡ flat_tell (tell_leaves file.now first second work.old word.old).said }
     ensures lent { work.new ∷ word.new ∷ [] ≡ (tell_leaves file.now first second work.old word.old).lent }
 {
-    tell_flat(tell(file, first, second, work, word))
+    WylTold::from(tell(file, first, second, work, word))
 }

@@ -1,36 +1,35 @@
 // Running words and lines.
 ghost use Rattle.std.specs.Prelude.{◌≡◌};
-ghost use Rattle.running.specs.Running.{ran_word, ran_line};
-ghost use Rattle.wylgentip.specs.Flat.{flat_ran, flat_of};
+ghost use Rattle.running.specs.Running.{told, ran_word, ran_line};
+ghost use Rattle.wylgentip.specs.Flat.{flat_ran};
 
-use running::words::{Ran, run_line, run_word};
-use table::answer::number_of;
+use running::words::{run_line, run_word};
+use table::answer::Refusal;
 
 // number 0: run to the end, with the mark of the last state; else the refusal's number and place, and kind is 0.
 #[repr(C)]
-#[derive(Clone, Copy)]
+#[derive(Clone, Copy, Default)]
 pub struct WylRan {
     pub number: usize,
     pub place: usize,
     pub kind: usize,
 }
 
-fn flat_of(ran: Ran) -> WylRan
-    ensures { result ≡ flat_of ran }
-{
-    match ran {
-        Ran::Ended(mark) => WylRan {
-            number: 0,
-            place: 0,
-            kind: mark,
-        },
-        Ran::Refused(refusal) => {
-            let kind = refusal.kind;
-            WylRan {
-                number: number_of(kind),
+impl From<Result<usize, Refusal>> for WylRan {
+    ghost from_gives = { λ answer flat. flat ≡ flat_ran (told answer) };
+
+    fn from(answer: Result<usize, Refusal>) -> WylRan {
+        match answer {
+            Ok(mark) => WylRan {
+                number: 0,
+                place: 0,
+                kind: mark,
+            },
+            Err(refusal) => WylRan {
+                number: refusal.kind.number(),
                 place: refusal.place,
-                kind: 0,
-            }
+                ..WylRan::default()
+            },
         }
     }
 }
@@ -40,7 +39,7 @@ fn flat_of(ran: Ran) -> WylRan
 pub extern "C" fn wyl_run_word(file: &[u8], word: &[u8]) -> WylRan
     ensures { result ≡ flat_ran (ran_word file.now word.now) }
 {
-    flat_of(run_word(file, word))
+    WylRan::from(run_word(file, word))
 }
 
 // A line, by the sign plan.
@@ -48,5 +47,5 @@ pub extern "C" fn wyl_run_word(file: &[u8], word: &[u8]) -> WylRan
 pub extern "C" fn wyl_run_line(file: &[u8], line: &[u8]) -> WylRan
     ensures { result ≡ flat_ran (ran_line file.now line.now) }
 {
-    flat_of(run_line(file, line))
+    WylRan::from(run_line(file, line))
 }

@@ -1,7 +1,7 @@
 -- What `read_file` leaves is the front of the input, as far as a reader tells what it holds.
 use Rattle.std.proofs.Common.{◌≡◌, IfSome, take, ℕ, List, [], ◌++◌, Option, None, Some, ap, ◌∙◌}
 use Rattle.std.specs.Option.{option_map}
-use Rattle.shrink.proofs.read_file.Goals as goal
+use Rattle.reporting.proofs.input.read_file.Goals as goal
 
 front : (left : Option (List ℕ)) (before items : List ℕ) (n : ℕ) → before ≡ [] → n ≡ 65536 → IfSome (option_map (take n) left) (λ bytes. items ≡ before ++ bytes) → IfSome left (λ bytes. items ≡ take 65536 bytes)
 front None before items n empty limit read = tt
