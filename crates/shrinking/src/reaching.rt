@@ -54,12 +54,7 @@ pub fn find_reached(nexts: &NextStates<'_>, work: &mut [u16])
     requires room { nexts.now.sizes.states ≤ length work.old }
     ensures { Found (unmarked nexts.now) work.old work.new }
 {
-    let start = nexts.sizes.start;
     clear(work, nexts.sizes.states);
-    work[start] = 1;
-    loop {
-        if !sweep(nexts, work) {
-            return;
-        }
-    }
+    work[nexts.sizes.start] = 1;
+    while sweep(nexts, work) {}
 }

@@ -81,13 +81,7 @@ fn write_rows(nexts: &NextStates<'_>, work: &[u16], rows: usize, out: &mut [u8])
 }
 
 // Writes the file of the rows. Of the marks it asks only how many there are, so it takes no `Table`.
-pub fn write_file(
-    marks: &[u8],
-    nexts: &NextStates<'_>,
-    work: &[u16],
-    rows: usize,
-    out: &mut [u8],
-)
+pub fn write_file(marks: &[u8], nexts: &NextStates<'_>, work: &[u16], rows: usize, out: &mut [u8])
     requires marks { length marks.now ≡ nexts.now.sizes.states }
     requires writable { Writable (machine_in nexts.now.sizes.states nexts.now.sizes.signs nexts.now.sizes.start marks.now nexts.now.bytes.now) rows work.now }
     requires room { file_length rows nexts.now.sizes.signs ≤ length out.old }

@@ -9,9 +9,9 @@ use Rattle.table.specs.Tables.{unmarked}
 use Rattle.shrinking.specs.Reached.{Sound}
 use Rattle.shrinking.proofs.reaching.find_reached.Given as goal
 
-abbrev pub invariant-loop-start : goal.invariant-loop-start
-invariant-loop-start l =
+abbrev pub invariant-loop : goal.invariant-loop
+invariant-loop l =
     Sound (unmarked l.nexts) l.work × (length l.work ≡ length l.initial.work) × ((i : ℕ) → l.nexts.sizes.states ≤ i → at l.work i ≡ at l.initial.work i)
 
-abbrev pub decreases-loop-start : goal.decreases-loop-start
-decreases-loop-start l = count l.nexts.sizes.states (λ x. eqb (at l.work x) 0)
+abbrev pub decreases-loop : goal.decreases-loop
+decreases-loop l = count l.nexts.sizes.states (λ x. eqb (at l.work x) 0)
