@@ -1,19 +1,18 @@
 -- The shrinking call: its answer and all lent memory, for every input.
-use Rattle.std.specs.Prelude.{◌≡◌, List, [], ◌∷◌, ℕ, ◌*◌, ◌≤◌, ltb, length, take}
+use Rattle.std.specs.Prelude.{◌≡◌, List, [], ◌∷◌, ℕ, ◌*◌, ◌≤◌, ltb, length, take, Result}
 use Rattle.automaton.specs.Quotient.{rows}
 use Rattle.lending.specs.Memory.{cleared, written}
-use Rattle.table.specs.Answers.{Said, gives, refusal}
+use Rattle.table.specs.Answers.{Said, gives, said_by}
 use Rattle.table.specs.Judging.{states_of}
 use Rattle.table.specs.Leaving.{Left, left, on_file, refusing}
 use Rattle.table.specs.Encoding.{machine_of}
 use Rattle.shrinking.specs.Shrunk.{shrunk}
-use Rattle.shrinking.specs.declared.shrinks.Shrinking.{Shrinking}
-use Rattle.shrinking.specs.declared.shrinks.Shrinking.TheVariants.{Made, Refused}
+use Rattle.table.specs.declared.answer.Refusal.{Refusal}
+use Rattle.shrinking.specs.declared.shrinks.Size.{Size}
 
 -- the answer: the rows and the length of the shrunk file, or the refusal
-abbrev pub told : Shrinking → Said
-told (Made size) = gives (size.rows ∷ size.length ∷ [])
-told (Refused r) = refusal r
+abbrev pub told : Result Size Refusal → Said
+told = said_by (λ size. size.rows ∷ size.length ∷ [])
 
 -- of an accepted file: 11, 12 at the shrunk file's length, then that file at the front of the lent bytes
 unfoldable pub shrink_of : List ℕ → List ℕ → List ℕ → Left

@@ -24,10 +24,8 @@ pub fn flag_classes(work: &mut [u16], n: usize)
     requires unflagged { (c : ℕ) → c < n → flag_at n work.old c ≡ 0 }
     ensures { Flagged n n work.old work.new }
 {
-    let mut q = 0;
-    while q < n {
+    for q in 0..n {
         flag_class(work, n, q);
-        q += 1;
     }
 }
 
@@ -53,10 +51,8 @@ pub fn number_rows(work: &mut [u16], n: usize) -> usize
     ensures { Numbered n n work.old work.new result }
 {
     let mut rows = 0;
-    let mut c = 0;
-    while c < n {
+    for c in 0..n {
         rows = number_class(work, n, c, rows);
-        c += 1;
     }
     rows
 }

@@ -1,15 +1,15 @@
 // The file of the rows, written at the front of the lent bytes.
-ghost use Rattle.std.specs.Prelude.{◌≡◌, [], ℕ, ◌+◌, ◌*◌, ◌<◌, ◌≤◌, length};
+ghost use Rattle.std.specs.Prelude.{◌≡◌, ℕ, ◌+◌, ◌*◌, ◌<◌, ◌≤◌, length};
 ghost use Rattle.std.proofs.lemmas.List.Edits.{sets};
 ghost use Rattle.counting.specs.Lists.{at};
 ghost use Rattle.lending.specs.Memory.{written};
-ghost use Rattle.table.specs.Encoding.{machine_in, Held, field_of, encode};
+ghost use Rattle.table.specs.Encoding.{machine_in, field_of, encode};
+ghost use Rattle.table.specs.Tables.{unmarked};
 ghost use Rattle.shrinking.specs.Reached.{row_at};
 ghost use Rattle.shrinking.specs.Written.{row_machine, Writable, file_length, sizes_bytes, marks_bytes, row_bytes, rows_bytes};
 
 use lending::{number_at, put_pair};
-use table::answer::Sizes;
-use table::fields::{mark_of, next_of};
+use table::tables::NextStates;
 
 // The row number of the class of a state.
 fn row_of(work: &[u16], n: usize, q: usize) -> usize
@@ -43,69 +43,53 @@ fn write_marks(marks: &[u8], n: usize, work: &[u16], rows: usize, out: &mut [u8]
     requires room { 12 + rows ≤ length out.old }
     ensures { out.new ≡ sets out.old 12 (marks_bytes n marks.now work.now rows) }
 {
-    let mut i = 0;
-    while i < rows {
+    for i in 0..rows {
         let place = 12 + i;
-        out[place] = mark_of(marks, number_at(work, 3 * n + i));
-        i += 1;
+        out[place] = marks[number_at(work, 3 * n + i)];
     }
 }
 
 // Writes the next states of one row.
-fn write_row(nexts: &[u8], sizes: Sizes, work: &[u16], rows: usize, i: usize, out: &mut [u8])
-    requires held { Held sizes.states sizes.signs sizes.start nexts.now }
-    requires writable { Writable (machine_in sizes.states sizes.signs sizes.start [] nexts.now) rows work.now }
+fn write_row(nexts: &NextStates<'_>, work: &[u16], rows: usize, i: usize, out: &mut [u8])
+    requires writable { Writable (unmarked nexts.now) rows work.now }
     requires row { i < rows }
-    requires room { file_length rows sizes.signs ≤ length out.old }
-    ensures { out.new ≡ sets out.old (12 + rows + 3 + 2 * (i * sizes.signs)) (row_bytes sizes.states sizes.signs nexts.now work.now i sizes.signs) }
+    requires room { file_length rows nexts.now.sizes.signs ≤ length out.old }
+    ensures { out.new ≡ sets out.old (12 + rows + 3 + 2 * (i * nexts.now.sizes.signs)) (row_bytes nexts.now.sizes.states nexts.now.sizes.signs nexts.now.bytes.now work.now i nexts.now.sizes.signs) }
 {
-    let n = sizes.states;
-    let signs = sizes.signs;
+    let n = nexts.sizes.states;
+    let signs = nexts.sizes.signs;
     let state = number_at(work, 3 * n + i);
-    let mut place = 12 + rows + 3 + 2 * (i * signs);
-    let mut a = 0;
-    while a < signs {
-        let row = row_of(work, n, next_of(nexts, signs, state, a));
-        put_pair(out, place, row);
-        place += 2;
-        a += 1;
+    let from = 12 + rows + 3 + 2 * (i * signs);
+    for a in 0..signs {
+        let row = row_of(work, n, nexts.next_of(state, a));
+        put_pair(out, from + 2 * a, row);
     }
 }
 
 // Writes the head of field 3 and the next states of all rows.
-fn write_rows(nexts: &[u8], sizes: Sizes, work: &[u16], rows: usize, out: &mut [u8])
-    requires held { Held sizes.states sizes.signs sizes.start nexts.now }
-    requires writable { Writable (machine_in sizes.states sizes.signs sizes.start [] nexts.now) rows work.now }
-    requires room { file_length rows sizes.signs ≤ length out.old }
-    ensures { out.new ≡ sets out.old (12 + rows) (field_of 3 (rows_bytes sizes.states sizes.signs nexts.now work.now rows)) }
+fn write_rows(nexts: &NextStates<'_>, work: &[u16], rows: usize, out: &mut [u8])
+    requires writable { Writable (unmarked nexts.now) rows work.now }
+    requires room { file_length rows nexts.now.sizes.signs ≤ length out.old }
+    ensures { out.new ≡ sets out.old (12 + rows) (field_of 3 (rows_bytes nexts.now.sizes.states nexts.now.sizes.signs nexts.now.bytes.now work.now rows)) }
 {
     let tag = 12 + rows;
     out[tag] = 3;
-    put_pair(out, tag + 1, 2 * (rows * sizes.signs));
-    let mut i = 0;
-    while i < rows {
-        write_row(nexts, sizes, work, rows, i, out);
-        i += 1;
+    put_pair(out, tag + 1, 2 * (rows * nexts.sizes.signs));
+    for i in 0..rows {
+        write_row(nexts, work, rows, i, out);
     }
 }
 
-// Writes the file of the rows.
-pub fn write_file(
-    marks: &[u8],
-    nexts: &[u8],
-    sizes: Sizes,
-    work: &[u16],
-    rows: usize,
-    out: &mut [u8],
-)
-    requires held { Held sizes.states sizes.signs sizes.start nexts.now }
-    requires marks { length marks.now ≡ sizes.states }
-    requires writable { Writable (machine_in sizes.states sizes.signs sizes.start marks.now nexts.now) rows work.now }
-    requires room { file_length rows sizes.signs ≤ length out.old }
-    ensures { out.new ≡ written (encode (row_machine (machine_in sizes.states sizes.signs sizes.start marks.now nexts.now) rows work.now)) out.old }
+// Writes the file of the rows. Of the marks it asks only how many there are, so it takes no `Table`.
+pub fn write_file(marks: &[u8], nexts: &NextStates<'_>, work: &[u16], rows: usize, out: &mut [u8])
+    requires marks { length marks.now ≡ nexts.now.sizes.states }
+    requires writable { Writable (machine_in nexts.now.sizes.states nexts.now.sizes.signs nexts.now.sizes.start marks.now nexts.now.bytes.now) rows work.now }
+    requires room { file_length rows nexts.now.sizes.signs ≤ length out.old }
+    ensures { out.new ≡ written (encode (row_machine (machine_in nexts.now.sizes.states nexts.now.sizes.signs nexts.now.sizes.start marks.now nexts.now.bytes.now) rows work.now)) out.old }
 {
-    let n = sizes.states;
-    write_sizes(rows, sizes.signs, row_of(work, n, sizes.start), out);
+    let n = nexts.sizes.states;
+    let start = row_of(work, n, nexts.sizes.start);
+    write_sizes(rows, nexts.sizes.signs, start, out);
     write_marks(marks, n, work, rows, out);
-    write_rows(nexts, sizes, work, rows, out);
+    write_rows(nexts, work, rows, out);
 }

@@ -2,26 +2,23 @@
 use mathlib.Core.Path.{◌≡◌, refl, sym, ap, ◌∙◌}
 use mathlib.Core.List.{List, [], ◌∷◌}
 use Prim.Native.Nat.{ℕ}
-use native.Mathlib.Omega.{arith}
+use Rattle.std.specs.Prelude.{Option, None, Some, Result}
 use Rattle.table.specs.Leaving.{left}
 use Rattle.table.proofs.Leavings.{left_said, left_lent}
-use Rattle.table.proofs.Uniqueness.{refusal_unique}
-use Rattle.telling.specs.declared.words.Parting.{Parting}
-use Rattle.telling.specs.declared.words.Parting.TheVariants.{Alike, Apart, Refused}
-use Rattle.telling.specs.Calls.{told, tell_leaves}
+use Rattle.table.specs.declared.answer.Refusal.{Refusal}
+use Rattle.table.proofs.Uniqueness.{said_unique}
+use Rattle.telling.specs.Calls.{word_length, told, tell_leaves}
 
-pub told_unique : (r s : Parting) → told r ≡ told s → r ≡ s
-told_unique Alike Alike e = refl
-told_unique (Apart x) (Apart y) e = let f : x ≡ y = cc in ap Apart f
-told_unique (Refused r) (Refused s) e = ap Refused (refusal_unique r s e)
-told_unique Alike (Apart y) e = let z : ◌≡◌ {A = ℕ} 0 1 = cc in absurd (omega arith)
-told_unique Alike (Refused s) e = let z : ◌≡◌ {A = ℕ} 0 1 = cc in absurd (omega arith)
-told_unique (Apart x) Alike e = let z : ◌≡◌ {A = ℕ} 0 1 = cc in absurd (omega arith)
-told_unique (Apart x) (Refused s) e = let z : ◌≡◌ {A = ℕ} 0 1 = cc in absurd (omega arith)
-told_unique (Refused r) Alike e = let z : ◌≡◌ {A = ℕ} 0 1 = cc in absurd (omega arith)
-told_unique (Refused r) (Apart y) e = let z : ◌≡◌ {A = ℕ} 0 1 = cc in absurd (omega arith)
+pub told_unique : (r s : Result (Option ℕ) Refusal) → told r ≡ told s → r ≡ s
+told_unique = said_unique word_length one
+  where
+    one : (x y : Option ℕ) → word_length x ≡ word_length y → x ≡ y
+    one None None e = refl
+    one None (Some y) e = absurd (cc)
+    one (Some x) None e = absurd (cc)
+    one (Some x) (Some y) e = ap Some (cc)
 
-pub tell_unique : (file : List ℕ) (p q : ℕ) (work word : List ℕ) (r s : Parting) (v w u t : List ℕ)
+pub tell_unique : (file : List ℕ) (p q : ℕ) (work word : List ℕ) (r s : Result (Option ℕ) Refusal) (v w u t : List ℕ)
     → left (told r) (v ∷ u ∷ []) ≡ tell_leaves file p q work word
     → left (told s) (w ∷ t ∷ []) ≡ tell_leaves file p q work word
     → (r ≡ s) × (v ≡ w) × (u ≡ t)

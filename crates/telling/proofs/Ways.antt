@@ -1,5 +1,5 @@
 -- The ways out of telling two states apart, each with its facts.
-use mathlib.Core.Path.{◌≡◌, refl, sym, ap, subst, ◌∙◌}
+use mathlib.Core.Path.{◌≡◌, refl, sym, ap, ap₂, subst, ◌∙◌}
 use mathlib.Core.Logic.{◌≢◌}
 use mathlib.Core.List.{List, [], ◌∷◌}
 use Prim.Native.Nat.{ℕ, ◌*◌, ◌≤◌, ◌<◌}
@@ -17,12 +17,12 @@ use Rattle.lending.specs.Memory.{cleared, written}
 use Rattle.table.specs.Answers.{gives, refuses}
 use Rattle.table.specs.Judging.{judged}
 use Rattle.table.specs.Leaving.{left}
-use Rattle.table.specs.Encoding.{machine_in}
-use Rattle.table.specs.Accepted.{Good}
-use Rattle.table.specs.declared.answer.Sizes.{Sizes}
+use Rattle.table.specs.Encoding.{machine_in, machine_of}
+use Rattle.table.specs.Tables.{machine, TableOf}
+use Rattle.table.specs.declared.tables.Table.{Table}
 use Rattle.table.proofs.Leavings.{file_refused, file_given, refuses_here, refuses_not}
 use Rattle.table.proofs.Openings.{good_given}
-use Rattle.table.proofs.Handing.{marks_in, nexts_in, machine_is}
+use Rattle.table.proofs.Handing.{machine_is}
 use Rattle.layering.specs.Layered.{InLayer, Settled}
 use Rattle.telling.specs.Kept.{Keeps}
 use Rattle.telling.specs.Calls.{spoken, tell_of, tell_leaves}
@@ -69,46 +69,51 @@ module _ (M : Machine) (lawful : Lawful M) (p q : ℕ) (k : p < M.size) (l : q <
         ∙ refuses_not 12 (length (word_from M d p q)) (work ∷ word ∷ []) _ (le-ltb (length word) (length (word_from M d p q)) (omega (arith, word_long)))
         ∙ ap (λ (i : ℕ). left (gives (i ∷ [])) (work ∷ written (word_from M d p q) word ∷ [])) word_long)
 
+-- the machine of a file's table is the file's
+table_machine : {file : List ℕ} {t : Table} → TableOf file t → machine t ≡ machine_of file
+table_machine {file} {t} h =
+    ap₂ (λ (marks nexts : List ℕ). machine_in t.nexts.sizes.states t.nexts.sizes.signs t.nexts.sizes.start marks nexts) h.marks h.nexts ∙ machine_is file t.nexts.sizes h.good
+
 pub tell_refused : (file : List ℕ) (p q : ℕ) (work word : List ℕ) {number place : ℕ} → judged file ≡ refuses number place → left (refuses number place) (work ∷ word ∷ []) ≡ tell_leaves file p q work word
 unfolding tell_leaves
 tell_refused file p q work word e = sym (file_refused file (work ∷ word ∷ []) _ e)
 
-module _ (file : List ℕ) (z : Sizes) (g : Good file z) (p q : ℕ) (work word : List ℕ) where
-  -- the machine whose bodies the call hands on
-  abbrev M : Machine
-  M = machine_in z.states z.signs z.start (marks_in file z) (nexts_in file z)
+-- the ways out of a file whose table is t
+module _ (file : List ℕ) (t : Table) (h : TableOf file t) (p q : ℕ) (work word : List ℕ) where
+  abbrev n : ℕ
+  n = t.nexts.sizes.states
 
   abbrev lent : List (List ℕ)
   lent = work ∷ word ∷ []
 
-  given : tell_leaves file p q work word ≡ tell_of M p q work word
+  given : tell_leaves file p q work word ≡ tell_of (machine t) p q work word
   unfolding tell_leaves
-  given = file_given file lent _ (good_given g) ∙ ap (λ (N : Machine). tell_of N p q work word) (sym (machine_is file z g))
+  given = file_given file lent _ (good_given h.good) ∙ ap (λ (N : Machine). tell_of N p q work word) (sym (table_machine h))
 
-  pub tell-first : z.states ≤ p → left (refuses 10 0) lent ≡ tell_leaves file p q work word
+  pub tell-first : n ≤ p → left (refuses 10 0) lent ≡ tell_leaves file p q work word
   unfolding tell_of
-  tell-first h = sym (given ∙ refuses_here 10 0 lent _ (le-leb z.states p h))
+  tell-first l = sym (given ∙ refuses_here 10 0 lent _ (le-leb n p l))
 
-  module _ (k : p < z.states) where
-    pub tell_second : z.states ≤ q → left (refuses 10 1) lent ≡ tell_leaves file p q work word
+  module _ (k : p < n) where
+    pub tell_second : n ≤ q → left (refuses 10 1) lent ≡ tell_leaves file p q work word
     unfolding tell_of
-    tell_second h = sym (given ∙ refuses_not 10 0 lent _ (lt-leb z.states p k) ∙ refuses_here 10 1 lent _ (le-leb z.states q h))
+    tell_second l = sym (given ∙ refuses_not 10 0 lent _ (lt-leb n p k) ∙ refuses_here 10 1 lent _ (le-leb n q l))
 
-    module _ (l : q < z.states) where
-      pub tell_narrow : length work < 16 * z.states → left (refuses 11 (16 * z.states)) lent ≡ tell_leaves file p q work word
+    module _ (l : q < n) where
+      pub tell_narrow : length work < 16 * n → left (refuses 11 (16 * n)) lent ≡ tell_leaves file p q work word
       unfolding tell_of
-      tell_narrow h =
+      tell_narrow m =
           sym
           (given
-          ∙ refuses_not 10 0 lent _ (lt-leb z.states p k)
-          ∙ refuses_not 10 1 lent _ (lt-leb z.states q l)
-          ∙ refuses_here 11 (16 * z.states) lent _ (lt-ltb (length work) (16 * z.states) h))
+          ∙ refuses_not 10 0 lent _ (lt-leb n p k)
+          ∙ refuses_not 10 1 lent _ (lt-leb n q l)
+          ∙ refuses_here 11 (16 * n) lent _ (lt-ltb (length work) (16 * n) m))
 
-      pub tell-spoken : 16 * z.states ≤ length work → spoken (telling M p q) (cleared (16 * z.states) work) word ≡ tell_leaves file p q work word
+      pub tell-spoken : 16 * n ≤ length work → spoken (telling (machine t) p q) (cleared (16 * n) work) word ≡ tell_leaves file p q work word
       unfolding tell_of
-      tell-spoken h =
+      tell-spoken m =
           sym
           (given
-          ∙ refuses_not 10 0 lent _ (lt-leb z.states p k)
-          ∙ refuses_not 10 1 lent _ (lt-leb z.states q l)
-          ∙ refuses_not 11 (16 * z.states) lent _ (le-ltb (length work) (16 * z.states) h))
+          ∙ refuses_not 10 0 lent _ (lt-leb n p k)
+          ∙ refuses_not 10 1 lent _ (lt-leb n q l)
+          ∙ refuses_not 11 (16 * n) lent _ (le-ltb (length work) (16 * n) m))

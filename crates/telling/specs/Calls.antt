@@ -1,19 +1,21 @@
 -- The call that tells two states apart: its answer and all lent memory, for every input.
-use Rattle.std.specs.Prelude.{List, [], ◌∷◌, ℕ, ◌*◌, ltb, leb, length}
+use Rattle.std.specs.Prelude.{List, [], ◌∷◌, ℕ, ◌*◌, ltb, leb, length, Option, None, Some, Result}
 use Rattle.automaton.specs.Machine.{Machine}
 use Rattle.automaton.specs.Telling.{Telling, alike, apart, telling}
 use Rattle.lending.specs.Memory.{cleared, written}
-use Rattle.table.specs.Answers.{Said, gives, refusal}
+use Rattle.table.specs.Answers.{Said, gives, said_by}
 use Rattle.table.specs.Leaving.{Left, left, on_file, refusing}
 use Rattle.table.specs.Encoding.{machine_of}
-use Rattle.telling.specs.declared.words.Parting.{Parting}
-use Rattle.telling.specs.declared.words.Parting.TheVariants.{Alike, Apart, Refused}
+use Rattle.table.specs.declared.answer.Refusal.{Refusal}
+
+-- nothing where the states are alike, else the length of the word
+abbrev pub word_length : Option ℕ → List ℕ
+word_length None = []
+word_length (Some length) = length ∷ []
 
 -- the answer: alike, or the length of the word, or the refusal
-abbrev pub told : Parting → Said
-told Alike = gives []
-told (Apart length) = gives (length ∷ [])
-told (Refused r) = refusal r
+abbrev pub told : Result (Option ℕ) Refusal → Said
+told = said_by word_length
 
 -- what is left once the word is known: "alike" needs no room; a word needs as many bytes as it has signs
 unfoldable pub spoken : Telling → List ℕ → List ℕ → Left

@@ -1,31 +1,26 @@
 -- `shrinking::reaching::spread` meets its contract. The loop's invariant: the next states under the first a signs are marked.
-use Prim.Native.Nat.{ℕ, ◌<◌}
-use mathlib.Core.Path.{◌≡◌, ap, subst, ◌∙◌}
+use Prim.Native.Nat.{ℕ}
+use mathlib.Core.Path.{◌≡◌, ap, subst}
 use mathlib.Core.Bool.{◌||◌}
-use mathlib.Core.List.{[]}
 use lib.Dec.{eqb}
-use Rattle.table.specs.Encoding.{machine_in}
+use Rattle.table.specs.Tables.{unmarked}
 use Rattle.shrinking.specs.Reached.{Spread}
 use Rattle.shrinking.proofs.Spreading.{spread_none, spread_more}
 use native.Mathlib.Omega.{arith}
 use Rattle.shrinking.proofs.reaching.spread.Goals as goal
 
 pub loop-a-init : goal.loop-a-init
-loop-a-init c = (omega arith, spread_none _ _ _)
+loop-a-init c = spread_none _ _ _
 
 pub loop-a-preserved : goal.loop-a-preserved
 loop-a-preserved c =
     let l = c.loop-a in
-    let x = c.next_of-next.result in
-    let k : x < c.args.sizes.states = rw c.next_of-next.ensures.value (c.requires.held.next_in c.args.q l.a c.requires.state c.loop-a-test.true) in (
-      omega (arith, c.loop-a-test.true),
-      spread_more _ c.args.q l.a c.args.work.now l.work l.new l.invariant.1 x c.next_of-next.ensures.value k c.requires.room c.requires.small _
-          (c.either-new.ensures ∙ ap (λ (y : ℕ). l.new || eqb y 0) c.number_at.ensures.value),
-    )
+    let x = c.next_of-next in
+    spread_more _ c.args.q l.a c.args.work.now l.work l.new l.invariant x.result x.ensures.value x.ensures.inside c.requires.room c.requires.small _
+    (ap (λ (y : ℕ). l.new || eqb y 0) c.number_at.ensures.value)
 
 pub returns : goal.returns
 returns c =
     let l = c.loop-a in
-    let z = c.args.sizes in
-    let e : l.a ≡ z.signs = omega (arith, c.loop-a-test.false) in
-    subst (λ (a : ℕ). Spread (machine_in z.states z.signs z.start [] c.args.nexts.now) c.args.q a c.args.work.now l.work l.new) e l.invariant.1
+    let e : l.a ≡ c.args.nexts.now.sizes.signs = omega (arith, c.loop-a-test.false) in
+    subst (λ (a : ℕ). Spread (unmarked c.args.nexts.now) c.args.q a c.args.work.now l.work l.new) e l.invariant

@@ -7,22 +7,21 @@ use native.Mathlib.Omega.{arith}
 use Rattle.shrinking.proofs.rows.number_rows.Goals as goal
 
 pub loop-c-init : goal.loop-c-init
-loop-c-init c = (omega arith, numbers_none _ _)
+loop-c-init c = numbers_none _ _
 
-pub number_class-rows-requires : goal.number_class-rows-requires
-number_class-rows-requires c =
+pub number_class-rows-requires-clause-within : goal.number_class-rows-requires-clause-within
+number_class-rows-requires-clause-within c =
     let l = c.loop-c in
-    record { room = (omega (arith, c.requires.room.0, l.invariant.1.long), c.requires.room.1); within = (c.loop-c-test.true, rows_most c.args.n l.c l.rows c.args.work.now l.work l.invariant.1) }
+    (c.loop-c-test.true, rows_most c.args.n l.c l.rows c.args.work.now l.work l.invariant)
 
 pub loop-c-preserved : goal.loop-c-preserved
 loop-c-preserved c =
     let l = c.loop-c in
-    let t = c.loop-c-test.true in
-    (omega (arith, t), numbers_more c.args.n l.c l.rows c.args.work.now l.work l.invariant.1 t c.requires.room.0 _ _ c.number_class-rows.ensures)
+    numbers_more c.args.n l.c l.rows c.args.work.now l.work l.invariant c.loop-c-test.true c.requires.room.0 _ _ c.number_class-rows.ensures
 
 pub returns : goal.returns
 returns c =
     let l = c.loop-c in
     let a = c.args in
     let e : l.c ≡ a.n = omega (arith, c.loop-c-test.false) in
-    subst (λ (x : ℕ). Numbered a.n x a.work.now l.work l.rows) e l.invariant.1
+    subst (λ (x : ℕ). Numbered a.n x a.work.now l.work l.rows) e l.invariant

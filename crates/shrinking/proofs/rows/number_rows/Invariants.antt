@@ -1,10 +1,6 @@
 -- The loop's invariant of `shrinking::rows::number_rows`: the flagged classes below c are numbered and listed.
-use Prim.Native.Nat.{◌≤◌, ◌-◌}
 use Rattle.shrinking.specs.Reached.{Numbered}
 use Rattle.shrinking.proofs.rows.number_rows.Given as goal
 
 abbrev pub invariant-loop-c : goal.invariant-loop-c
-invariant-loop-c l = (l.c ≤ l.n) × Numbered l.n l.c l.initial.work l.work l.rows
-
-abbrev pub decreases-loop-c : goal.decreases-loop-c
-decreases-loop-c l = l.n - l.c
+invariant-loop-c l = Numbered l.n l.c l.initial.work l.work l.rows

@@ -1,7 +1,6 @@
 -- `shrinking::writing::write_marks` meets its contract. The loop's invariant: the marks of the first i rows are written.
-use Prim.Native.Nat.{ℕ, ◌+◌}
+use Prim.Native.Nat.{ℕ}
 use mathlib.Core.Path.{◌≡◌, refl, ap, ◌∙◌}
-use lib.ListN.{length-set}
 use lib.Seq.{sets}
 use Rattle.shrinking.specs.Written.{marks_bytes}
 use Rattle.shrinking.proofs.Stores.{marks_none, marks_more}
@@ -9,20 +8,17 @@ use native.Mathlib.Omega.{arith}
 use Rattle.shrinking.proofs.writing.write_marks.Goals as goal
 
 pub loop-i-init : goal.loop-i-init
-loop-i-init c = (omega arith, refl, marks_none _ _ _ _)
+loop-i-init c = marks_none _ _ _ _
 
 pub loop-i-preserved : goal.loop-i-preserved
 loop-i-preserved c =
     let l = c.loop-i in
-    let a = c.args in (
-      omega arith,
-      length-set l.out (12 + l.i) c.mark_of.result ∙ l.invariant.1,
-      marks_more a.n a.work.now a.out.now a.marks.now l.i l.out _ _ l.invariant.2 c.mark_of.ensures c.number_at.ensures.value,
-    )
+    let a = c.args in
+    marks_more a.n a.work.now a.out.now a.marks.now l.i l.out _ _ l.invariant refl c.number_at.ensures.value
 
 pub returns : goal.returns
 returns c =
     let l = c.loop-i in
     let a = c.args in
     let e : l.i ≡ a.rows = omega arith in
-    l.invariant.2 ∙ ap (λ (i : ℕ). sets a.out.now 12 (marks_bytes a.n a.marks.now a.work.now i)) e
+    l.invariant ∙ ap (λ (i : ℕ). sets a.out.now 12 (marks_bytes a.n a.marks.now a.work.now i)) e

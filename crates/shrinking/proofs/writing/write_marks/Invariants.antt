@@ -1,13 +1,8 @@
 -- The loop's invariant of `shrinking::writing::write_marks`: the marks of the first i rows are written.
-use Prim.Native.Nat.{◌≤◌, ◌-◌}
 use mathlib.Core.Path.{◌≡◌}
-use lib.ListN.{length}
 use lib.Seq.{sets}
 use Rattle.shrinking.specs.Written.{marks_bytes}
 use Rattle.shrinking.proofs.writing.write_marks.Given as goal
 
 abbrev pub invariant-loop-i : goal.invariant-loop-i
-invariant-loop-i l = (l.i ≤ l.rows) × (length l.out ≡ length l.initial.out) × (l.out ≡ sets l.initial.out 12 (marks_bytes l.n l.marks l.work l.i))
-
-abbrev pub decreases-loop-i : goal.decreases-loop-i
-decreases-loop-i l = l.rows - l.i
+invariant-loop-i l = l.out ≡ sets l.initial.out 12 (marks_bytes l.n l.marks l.work l.i)

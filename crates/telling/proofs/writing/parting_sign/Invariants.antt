@@ -1,10 +1,6 @@
 -- What the loop of `telling::writing::parting_sign` keeps: under the signs passed the next states have one name in the layer.
-use Prim.Native.Nat.{◌≤◌, ◌-◌}
 use Rattle.telling.proofs.Spellings.{Unparted}
 use Rattle.telling.proofs.writing.parting_sign.Given as goal
 
 abbrev pub invariant-loop-a : goal.invariant-loop-a
-invariant-loop-a l = (l.a ≤ l.signs) × Unparted l.n l.signs l.nexts l.work l.p l.q l.layer l.a
-
-abbrev pub decreases-loop-a : goal.decreases-loop-a
-decreases-loop-a l = l.signs - l.a
+invariant-loop-a l = Unparted l.n l.signs l.nexts.bytes.now l.work l.p l.q l.layer l.a

@@ -1,11 +1,7 @@
 -- What the loop of `telling::writing::write_word` keeps: the signs written are the word's, and what is to come is the word for the two states they lead to.
-use Prim.Native.Nat.{◌≤◌, ◌-◌}
 use Rattle.telling.proofs.Spellings.{Spelling}
 use Rattle.telling.proofs.writing.write_word.Given as goal
 
 abbrev pub invariant-loop-i : goal.invariant-loop-i
 invariant-loop-i l =
-    (l.i ≤ l.depth) × Spelling l.sizes.states l.sizes.signs l.sizes.start l.nexts l.work l.p l.q l.depth l.initial.word l.word l.one l.other l.i
-
-abbrev pub decreases-loop-i : goal.decreases-loop-i
-decreases-loop-i l = l.depth - l.i
+    Spelling l.nexts.sizes.states l.nexts.sizes.signs l.nexts.sizes.start l.nexts.bytes.now l.work l.p l.q l.depth l.initial.word l.word l.one l.other l.i
