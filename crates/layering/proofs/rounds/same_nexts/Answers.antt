@@ -16,4 +16,4 @@ returns-then-number_at c =
 
 pub returns : goal.returns
 unfolding same_nexts
-returns c = sym ((all_iff _ _).1 (λ b l. c.loop-a.invariant.1 b (omega arith)))
+returns c = sym ((all_iff _ _).1 (λ b l. c.loop-a.invariant b (omega arith)))
