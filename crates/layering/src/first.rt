@@ -8,6 +8,7 @@ use lending::one_of;
 use table::tables::Marks;
 
 // The first state of a mark among one state more: it stays where that state has the mark, and goes past it where there was none before.
+#[tactic(auto, unfolding(counting::specs::Least::pick))]
 fn past(x: usize, q: usize, here: bool) -> usize
     requires { q < 65536 }
     ensures { result ≡ pick here x (pick (eqb x q) (suc q) x) }

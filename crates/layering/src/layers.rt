@@ -18,6 +18,7 @@ pub struct Counts {
 }
 
 // Writes the class names to the front of the result; gives how many there are.
+#[tactic(auto, using(crate::proofs::Copying::names_none, crate::proofs::Copying::names_more, crate::proofs::Copying::names_most, crate::proofs::Copying::copied))]
 fn write_names(work: &[u16], n: usize, res: &mut [u16]) -> usize
     requires { (n ≤ length work.now) × (n ≤ length res.old) × (n ≤ 1024) }
     ensures names { result ≡ class_count n work.now }

@@ -12,6 +12,7 @@ use lending::number_at;
 use table::tables::{NextStates, Table};
 
 // Whether the next states of two states have the same names in this layer, under every sign.
+#[tactic(auto, using(counting::proofs::Tallies::all_iff, counting::proofs::Tallies::all_fails), unfolding(crate::specs::Work::same_nexts))]
 fn same_nexts(nexts: &NextStates<'_>, work: &[u16], q: usize, r: usize) -> bool
     requires room { nexts.now.sizes.states ≤ length work.now }
     requires states { (q < nexts.now.sizes.states) × (r < nexts.now.sizes.states) }
@@ -28,6 +29,7 @@ fn same_nexts(nexts: &NextStates<'_>, work: &[u16], q: usize, r: usize) -> bool
 }
 
 // The bucket of a state: by its name and those of its next states in this layer, so that states alike in the next layer have one bucket.
+#[tactic(auto, unfolding(crate::specs::Work::mixed, crate::specs::Work::bucket))]
 fn bucket_of(nexts: &NextStates<'_>, work: &[u16], q: usize) -> usize
     requires room { 6 * nexts.now.sizes.states ≤ length work.now }
     requires state { q < nexts.now.sizes.states }
