@@ -77,12 +77,3 @@ other_mark m l = elim (ℕ_discrete m 0) [
   | yes z ↦ rw z refl
   | no z ↦ let o : m ≡ 1 = omega arith in rw o refl
 ]
-
--- the ways out of `past`
-pub past_on : (here : Bool) (x q : ℕ) → here ≡ false → x ≡ q → q + 1 ≡ pick here x (pick (eqb x q) (suc q) x)
-unfolding pick
-past_on here x q e f = rw (e, eq-eqb x q f) (add-one q)
-
-pub past_stays : (here : Bool) (x q : ℕ) → here ≡ false → (x ≡ q → ⊥) → x ≡ pick here x (pick (eqb x q) (suc q) x)
-unfolding pick
-past_stays here x q e f = rw (e, ne_eqb x q f) refl

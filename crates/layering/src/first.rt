@@ -23,6 +23,7 @@ fn past(x: usize, q: usize, here: bool) -> usize
 }
 
 // Names each state by the first state of its mark.
+#[tactic(auto, using(crate::proofs::Beginning::first_named_none, crate::proofs::Beginning::nothing_least))]
 pub fn mark_names(marks: &Marks<'_>, names: &mut [u16])
     requires { length marks.now.bytes.now ≤ length names.old }
     ensures { FirstNamed marks.now.bytes.now (length marks.now.bytes.now) names.old names.new }
@@ -40,6 +41,7 @@ pub fn mark_names(marks: &Marks<'_>, names: &mut [u16])
 }
 
 // Names each state by the first state of its mark, and notes that these names are born in layer 0.
+#[tactic(auto, using(crate::proofs::Beginning::begun_born, crate::proofs::Emptying::zeroed))]
 pub fn first_names(marks: &Marks<'_>, work: &mut [u16])
     requires { 6 * length marks.now.bytes.now ≤ length work.old }
     ensures { Begun (length marks.now.bytes.now) marks.now.bytes.now work.old work.new }

@@ -1,19 +1,14 @@
 -- `layering::first::mark_names` meets its contract.
 use native.Mathlib.Omega.{arith}
 use Prim.Native.Nat.{ℕ, ◌+◌}
-use mathlib.Core.Path.{◌≡◌, sym, ap, subst, ◌∙◌}
+use mathlib.Core.Path.{sym, ap, subst, ◌∙◌}
 use mathlib.Core.Bool.{not}
 use lib.Dec.{eqb}
-use lib.ListN.{length}
 use Rattle.counting.specs.Lists.{at}
 use Rattle.counting.specs.Least.{pick}
 use Rattle.counting.proofs.Leasts.{IsLeast}
-use Rattle.layering.specs.Layered.{FirstNamed}
-use Rattle.layering.proofs.Beginning.{has, first_named_none, first_named_more, past-least, first-name, nothing_least, either_small, other_mark}
+use Rattle.layering.proofs.Beginning.{has, first_named_more, past-least, first-name, either_small, other_mark}
 use Rattle.layering.proofs.first.mark_names.Goals as goal
-
-pub loop-q-init : goal.loop-q-init
-loop-q-init c = (first_named_none _ _, nothing_least c.args.marks.now.bytes.now 0, nothing_least c.args.marks.now.bytes.now 1)
 
 pub overflow_cast-names : goal.overflow_cast-names
 overflow_cast-names c =
@@ -35,9 +30,3 @@ loop-q-preserved c =
       subst (λ (x : ℕ). IsLeast (l.q + 1) (has marks 1) x) (sym c.past-one.ensures)
           (past-least l.q 1 l.one marks (not (eqb m.result 0)) (other_mark (at marks l.q) two ∙ ap (λ (x : ℕ). not (eqb x 0)) (sym m.ensures)) l.invariant.2),
     )
-
-pub returns : goal.returns
-returns c =
-    let l = c.loop-q in
-    let e : l.q ≡ length c.args.marks.now.bytes.now = omega arith in
-    subst (λ (q : ℕ). FirstNamed c.args.marks.now.bytes.now q c.args.names.now l.names) e l.invariant.0

@@ -2,14 +2,9 @@
 use mathlib.Core.Path.{◌≡◌, refl, sym, ◌∙◌}
 use native.Mathlib.Numerals.{add-one}
 use native.Mathlib.Omega.{arith}
-use Rattle.layering.proofs.Emptying.{Zeroed, emptied}
-use Rattle.layering.proofs.Rounding.{round_begins, round_from, round_goes_on, rounded_as, named_same}
+use Rattle.layering.proofs.Emptying.{emptied}
+use Rattle.layering.proofs.Rounding.{round_from, round_goes_on, rounded_as, named_same}
 use Rattle.layering.proofs.rounds.run_round.Goals as goal
-
-pub loop-q-init : goal.loop-q-init
-loop-q-init c =
-    let z = emptied c.args.nexts.now.sizes.states c.args.work.now c.fill.new.self c.requires.room (c.fill.ensures.after (λ y e. e)) in
-    round_begins _ _ _ (λ b l. z.zero _ (omega arith) (omega arith))
 
 pub name_state-fresh-requires-clause-named : goal.name_state-fresh-requires-clause-named
 name_state-fresh-requires-clause-named c =
