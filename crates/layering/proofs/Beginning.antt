@@ -15,8 +15,8 @@ use Rattle.counting.specs.Lists.{at}
 use Rattle.counting.specs.Least.{least, name, pick}
 use Rattle.counting.proofs.Cases.{by_test}
 use Rattle.counting.proofs.Leasts.{IsLeast, least_unique, least_at, least-past}
-use Rattle.layering.specs.Work.{born}
-use Rattle.layering.specs.Layered.{FirstNamed, Unborn, Begun}
+use Rattle.layering.specs.Layered.{FirstNamed, Begun}
+use Rattle.layering.proofs.Emptying.{Zeroed}
 
 pub first_named_none : (marks w : List ℕ) → FirstNamed marks 0 w w
 first_named_none marks w = record { long = refl; names = λ x l. absurd (not-suc-le-zero l); beyond = λ i l. refl }
@@ -32,27 +32,12 @@ first_named_more q v marks w₀ w room e b = record {
   beyond = λ i m. get_or-set_other w q i v 0 (omega arith) ∙ b.beyond i (omega arith);
 }
 
-pub unborn_none : (n : ℕ) (w : List ℕ) → Unborn n 0 w w
-unborn_none n w = record { long = refl; births = λ x l. absurd (not-suc-le-zero l); below = λ i l. refl; beyond = λ i l. refl }
-
-pub unborn_more : (n q : ℕ) (w₀ w : List ℕ) → q < n → 3 * n + q < length w → Unborn n q w₀ w → Unborn n (q + 1) w₀ (set w (3 * n + q) 0)
-unborn_more n q w₀ w l room b = record {
-  long = length-set w (3 * n + q) 0 ∙ b.long;
-  births = λ x m.
-      elim (ℕ_discrete x q) [
-        | yes z ↦ subst (λ (y : ℕ). born n (set w (3 * n + q) 0) y ≡ 0) (sym z) (get_or-set_same w (3 * n + q) 0 0 room)
-        | no z ↦ get_or-set_other w (3 * n + q) (3 * n + x) 0 0 (omega arith) ∙ b.births x (omega arith)
-      ];
-  below = λ i m. get_or-set_other w (3 * n + q) i 0 0 (omega arith) ∙ b.below i m;
-  beyond = λ i m. get_or-set_other w (3 * n + q) i 0 0 (omega arith) ∙ b.beyond i m;
-}
-
 -- named, then born
-pub begun_born : (n : ℕ) (marks w₀ w v : List ℕ) → FirstNamed marks n w₀ w → Unborn n n w v → Begun n marks w₀ v
+pub begun_born : (n : ℕ) (marks w₀ w v : List ℕ) → FirstNamed marks n w₀ w → Zeroed (3 * n) (4 * n) w v → Begun n marks w₀ v
 begun_born n marks w₀ w v a b = record {
   long = b.long ∙ a.long;
   names = λ x l. b.below x (omega arith) ∙ a.names x l;
-  births = b.births;
+  births = λ c l. b.zero (3 * n + c) (omega arith) (omega arith);
   beyond = λ i l. b.beyond i (omega arith) ∙ a.beyond i (omega arith);
 }
 
@@ -92,12 +77,3 @@ other_mark m l = elim (ℕ_discrete m 0) [
   | yes z ↦ rw z refl
   | no z ↦ let o : m ≡ 1 = omega arith in rw o refl
 ]
-
--- the ways out of `past`
-pub past_on : (here : Bool) (x q : ℕ) → here ≡ false → x ≡ q → q + 1 ≡ pick here x (pick (eqb x q) (suc q) x)
-unfolding pick
-past_on here x q e f = rw (e, eq-eqb x q f) (add-one q)
-
-pub past_stays : (here : Bool) (x q : ℕ) → here ≡ false → (x ≡ q → ⊥) → x ≡ pick here x (pick (eqb x q) (suc q) x)
-unfolding pick
-past_stays here x q e f = rw (e, ne_eqb x q f) refl

@@ -2,7 +2,7 @@
 use mathlib.Core.Path.{◌≡◌, sym, ap, ap₂, subst, ◌∙◌}
 use mathlib.Core.Logic.{◌≢◌, ◌↔◌}
 use mathlib.Core.Bool.{Bool, true, false, ◌&&◌, true≢false}
-use mathlib.Core.List.{List}
+use mathlib.Core.List.{List, []}
 use Prim.Native.Nat.{ℕ, zero, suc, ◌+◌, ◌*◌, ◌/◌, ◌%◌, ◌≤◌, ◌<◌}
 use native.Mathlib.Nat.{le_antisymm, mod-lt}
 use native.Mathlib.Decide.{ℕ_discrete, dec_lt}
@@ -19,6 +19,9 @@ use Rattle.counting.proofs.Names.{Alike, name_le, name_alike, name-least, name_i
 use Rattle.automaton.specs.Machine.{Machine, Lawful}
 use Rattle.automaton.specs.Layers.{alike_next}
 use Rattle.automaton.proofs.Alikes.{alike_next_lem}
+use Rattle.table.specs.Tables.{unmarked}
+use Rattle.table.specs.declared.tables.NextStates.{NextStates}
+use Rattle.table.proofs.Handing.{held_lawful}
 use Rattle.layering.specs.Work.{this, link, head, mixed, bucket, same_nexts, Named, New, Done}
 
 -- mixed are the names of a state and of its next states, and nothing else
@@ -42,6 +45,10 @@ bucket_same M lawful w v h q l =
 pub record Passed (M : Machine) (work : List ℕ) (q r : ℕ) : Type 0 where
   pub name : r ≢ 0 → New M.size work q r × (bucket M work r ≡ bucket M work q)
   pub above : (s : ℕ) → New M.size work q s → bucket M work s ≡ bucket M work q → r < s → alike_next M (take M.size work) s q ≡ true → ⊥
+
+-- the machine of lent next states is lawful
+pub lent_lawful : (t : NextStates) → Lawful (unmarked t)
+lent_lawful t = held_lawful [] t.held
 
 module _ (M : Machine) (lawful : Lawful M) (work : List ℕ) where
   -- alike in the next layer

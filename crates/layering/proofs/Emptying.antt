@@ -1,30 +1,28 @@
--- Emptying the buckets: none yet, and one more.
-use mathlib.Core.Path.{◌≡◌, refl, sym, subst, ◌∙◌}
+-- Numbers of the slice filled with 0: all others are as they were; and so the buckets are emptied.
+use mathlib.Core.Path.{◌≡◌}
 use mathlib.Core.List.{List}
-use Prim.Native.Nat.{ℕ, ◌+◌, ◌*◌, ◌≤◌, ◌<◌}
-use native.Mathlib.Nat.{not-suc-le-zero}
-use native.Mathlib.Decide.{ℕ_discrete}
+use Prim.Native.Nat.{ℕ, ◌*◌, ◌-◌, ◌≤◌, ◌<◌}
 use native.Mathlib.Omega.{arith}
-use lib.ListN.{length, set, length-set}
-use lib.Seq.{get_or-set_same, get_or-set_other}
-use Rattle.layering.specs.Work.{head, Emptied}
+use borrow.Rule.Slice.PartMut.{put_mid}
+use lib.ListN.{length, take, drop, replicate}
+use Rattle.std.proofs.lemmas.List.{places}
+use Rattle.counting.specs.Lists.{at}
 
-pub emptied_none : (n : ℕ) (w : List ℕ) → Emptied n 0 w w
-emptied_none n w = record {
-  long = refl;
-  empty = λ c k. absurd (not-suc-le-zero k);
-  below = λ i k. refl;
-  beyond = λ i k. refl;
+-- The numbers from one place to another are 0; all others are as they were.
+pub record Zeroed (from to : ℕ) (before after : List ℕ) : Type 0 where
+  pub long : length after ≡ length before
+  pub zero : (i : ℕ) → from ≤ i → i < to → at after i ≡ 0
+  pub below : (i : ℕ) → i < from → at after i ≡ at before i
+  pub beyond : (i : ℕ) → to ≤ i → at after i ≡ at before i
+
+pub zeroed : (from to : ℕ) (w zeros : List ℕ) → from ≤ to → to ≤ length w → zeros ≡ replicate (length (take (to - from) (drop from w))) 0 → Zeroed from to w (put_mid from (to - from) w zeros)
+zeroed from to w zeros l room e = rw e record {
+  long = grind (arith, places);
+  zero = λ i a b. grind (arith, places);
+  below = λ i a. grind (arith, places);
+  beyond = λ i a. grind (arith, places);
 }
 
-pub emptied_more : (n b : ℕ) (w₀ w : List ℕ) → b < n → 6 * n ≤ length w → Emptied n b w₀ w → Emptied n (b + 1) w₀ (set w (5 * n + b) 0)
-emptied_more n b w₀ w l room m = record {
-  long = length-set w (5 * n + b) 0 ∙ m.long;
-  empty = λ c k.
-      elim (ℕ_discrete c b) [
-        | yes e ↦ subst (λ (x : ℕ). head n (set w (5 * n + b) 0) x ≡ 0) (sym e) (get_or-set_same w (5 * n + b) 0 0 (omega arith))
-        | no u ↦ get_or-set_other w (5 * n + b) (5 * n + c) 0 0 (omega arith) ∙ m.empty c (omega arith)
-      ];
-  below = λ i k. get_or-set_other w (5 * n + b) i 0 0 (omega arith) ∙ m.below i k;
-  beyond = λ i k. get_or-set_other w (5 * n + b) i 0 0 (omega arith) ∙ m.beyond i k;
-}
+-- the buckets emptied
+pub emptied : (n : ℕ) (w zeros : List ℕ) → 6 * n ≤ length w → zeros ≡ replicate (length (take (6 * n - 5 * n) (drop (5 * n) w))) 0 → Zeroed (5 * n) (6 * n) w (put_mid (5 * n) (6 * n - 5 * n) w zeros)
+emptied n w zeros = zeroed (5 * n) (6 * n) w zeros (omega arith)

@@ -4,7 +4,6 @@ pub mod Stepping
 pub mod Storing
 pub mod Emptying
 pub mod Rounding
-pub mod Moving
 pub mod Deepening
 pub mod Descent
 pub mod Beginning

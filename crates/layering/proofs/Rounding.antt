@@ -9,7 +9,8 @@ use native.Mathlib.Decide.{ℕ_discrete}
 use native.Mathlib.Omega.{arith}
 use Rattle.counting.proofs.Cases.{by_test, neither}
 use Rattle.automaton.specs.Machine.{Machine}
-use Rattle.layering.specs.Work.{this, later, head, born, from, Named, Emptied, Advanced, Rounded}
+use Rattle.layering.proofs.Emptying.{Zeroed}
+use Rattle.layering.specs.Work.{this, later, head, born, from, Named, Advanced, Rounded}
 
 -- with the buckets empty, none is done
 pub round_begins : (M : Machine) (w : List ℕ) (round : ℕ) → ((b : ℕ) → b < M.size → head M.size w b ≡ 0) → Rounded M w w round 0 false
@@ -31,7 +32,7 @@ round_begins M w round h = record {
 }
 
 -- the round, seen from before its buckets were emptied
-pub round_from : (M : Machine) (w v u : List ℕ) (round : ℕ) (t : Bool) → Emptied M.size M.size w v → Rounded M v u round M.size t → Rounded M w u round M.size t
+pub round_from : (M : Machine) (w v u : List ℕ) (round : ℕ) (t : Bool) → Zeroed (5 * M.size) (6 * M.size) w v → Rounded M v u round M.size t → Rounded M w u round M.size t
 round_from M w v u round t m r = record {
   long = r.long ∙ m.long;
   same = λ x l. r.same x l ∙ this-as x l;

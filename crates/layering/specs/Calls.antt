@@ -1,18 +1,17 @@
 -- The layered call: its answer and all lent memory, for every input.
-use Rattle.std.specs.Prelude.{List, [], ◌∷◌, ℕ, ◌*◌, ltb, length}
+use Rattle.std.specs.Prelude.{List, [], ◌∷◌, ℕ, ◌*◌, ltb, length, Result}
 use Rattle.automaton.specs.Machine.{Machine}
 use Rattle.automaton.specs.Layers.{classes, class_count, rounds}
 use Rattle.lending.specs.Memory.{cleared, written}
-use Rattle.table.specs.Answers.{Said, gives, refusal}
+use Rattle.table.specs.Answers.{Said, gives, said_by}
 use Rattle.table.specs.Leaving.{Left, left, on_file, refusing}
 use Rattle.table.specs.Encoding.{machine_of}
-use Rattle.layering.specs.declared.layers.Layered.{Layered}
-use Rattle.layering.specs.declared.layers.Layered.TheVariants.{Found, Refused}
+use Rattle.table.specs.declared.answer.Refusal.{Refusal}
+use Rattle.layering.specs.declared.layers.Counts.{Counts}
 
 -- the answer: m and r, or the refusal
-abbrev pub told : Layered → Said
-told (Found counts) = gives (counts.classes ∷ counts.rounds ∷ [])
-told (Refused r) = refusal r
+abbrev pub told : Result Counts Refusal → Said
+told = said_by (λ c. c.classes ∷ c.rounds ∷ [])
 
 -- of a machine: 11, 12, then m and r, with the class names at the front of the result
 unfoldable pub layers_of : Machine → List ℕ → List ℕ → Left

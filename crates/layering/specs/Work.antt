@@ -61,13 +61,6 @@ pub record Done (M : Machine) (work : List ℕ) (q : ℕ) : Type 0 where
   pub greatest : (s : ℕ) → New M.size work q s → s ≤ head M.size work (bucket M work s)
   pub next : (r s : ℕ) → New M.size work q r → New M.size work q s → bucket M work r ≡ bucket M work s → s < r → s ≤ link M.size work r
 
--- The first b buckets are emptied; all else is as it was.
-pub record Emptied (n b : ℕ) (before after : List ℕ) : Type 0 where
-  pub long : length after ≡ length before
-  pub empty : (c : ℕ) → c < b → head n after c ≡ 0
-  pub below : (i : ℕ) → i < 5 * n → at after i ≡ at before i
-  pub beyond : (i : ℕ) → 6 * n ≤ i → at after i ≡ at before i
-
 -- What looking for a name gives: the state's name in the next layer, which was there before it or is the one it had; or, its name being its own and new, its bucket.
 abbrev pub Sought : Machine → List ℕ → ℕ → Seek → Type 0
 Sought M work q (Found r) = (r ≤ q) × (name (alike_next M (take M.size work)) q ≡ r) × (r ≡ q → this work q ≡ q)

@@ -2,12 +2,13 @@
 ghost use Rattle.std.specs.Prelude.{◌≡◌, ℕ, suc, ◌*◌, ◌<◌, ◌≤◌, eqb, length};
 ghost use Rattle.counting.specs.Lists.{at};
 ghost use Rattle.counting.specs.Least.{pick};
-ghost use Rattle.layering.specs.Layered.{FirstNamed, Unborn, Begun};
+ghost use Rattle.layering.specs.Layered.{FirstNamed, Begun};
 
 use lending::one_of;
 use table::tables::Marks;
 
 // The first state of a mark among one state more: it stays where that state has the mark, and goes past it where there was none before.
+#[tactic(auto, unfolding(counting::specs::Least::pick))]
 fn past(x: usize, q: usize, here: bool) -> usize
     requires { q < 65536 }
     ensures { result ≡ pick here x (pick (eqb x q) (suc q) x) }
@@ -22,6 +23,7 @@ fn past(x: usize, q: usize, here: bool) -> usize
 }
 
 // Names each state by the first state of its mark.
+#[tactic(auto, using(crate::proofs::Beginning::first_named_none, crate::proofs::Beginning::nothing_least))]
 pub fn mark_names(marks: &Marks<'_>, names: &mut [u16])
     requires { length marks.now.bytes.now ≤ length names.old }
     ensures { FirstNamed marks.now.bytes.now (length marks.now.bytes.now) names.old names.new }
@@ -38,24 +40,13 @@ pub fn mark_names(marks: &Marks<'_>, names: &mut [u16])
     }
 }
 
-// Notes that all names are born in layer 0.
-fn clear_births(work: &mut [u16], n: usize)
-    requires { (6 * n ≤ length work.old) × (n ≤ 1024) }
-    ensures { Unborn n n work.old work.new }
-{
-    let mut q = 0;
-    while q < n {
-        let birth = 3 * n + q;
-        work[birth] = 0;
-        q += 1;
-    }
-}
-
 // Names each state by the first state of its mark, and notes that these names are born in layer 0.
+#[tactic(auto, using(crate::proofs::Beginning::begun_born, crate::proofs::Emptying::zeroed))]
 pub fn first_names(marks: &Marks<'_>, work: &mut [u16])
     requires { 6 * length marks.now.bytes.now ≤ length work.old }
     ensures { Begun (length marks.now.bytes.now) marks.now.bytes.now work.old work.new }
 {
+    let n = marks.bytes.len();
     mark_names(marks, work);
-    clear_births(work, marks.bytes.len());
+    work[3 * n..4 * n].fill(0);
 }

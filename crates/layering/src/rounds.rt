@@ -5,50 +5,47 @@ ghost use Rattle.counting.specs.Lists.{at};
 ghost use Rattle.table.specs.Encoding.{machine_in};
 ghost use Rattle.table.specs.Tables.{machine, unmarked};
 ghost use Rattle.layering.specs.Layered.{InLayer, Settled};
-ghost use Rattle.layering.specs.Work.{same_nexts, bucket, Named, Done, Sought, Emptied, Advanced, Rounded, Moved};
+ghost use Rattle.layering.specs.Work.{same_nexts, bucket, Named, Done, Sought, Advanced, Rounded, Moved};
 
 use crate::first::first_names;
-use lending::{either, number_at};
+use lending::number_at;
 use table::tables::{NextStates, Table};
 
 // Whether the next states of two states have the same names in this layer, under every sign.
+#[tactic(auto, using(counting::proofs::Tallies::all_iff, counting::proofs::Tallies::all_fails), unfolding(crate::specs::Work::same_nexts))]
 fn same_nexts(nexts: &NextStates<'_>, work: &[u16], q: usize, r: usize) -> bool
     requires room { nexts.now.sizes.states ≤ length work.now }
     requires states { (q < nexts.now.sizes.states) × (r < nexts.now.sizes.states) }
     ensures { result ≡ same_nexts (unmarked nexts.now) work.now q r }
 {
-    let signs = nexts.sizes.signs;
-    let mut a = 0;
-    while a < signs {
+    for a in 0..nexts.sizes.signs {
         let left = nexts.next_of(q, a);
         let right = nexts.next_of(r, a);
         if number_at(work, left) != number_at(work, right) {
             return false;
         }
-        a += 1;
     }
     true
 }
 
 // The bucket of a state: by its name and those of its next states in this layer, so that states alike in the next layer have one bucket.
+#[tactic(auto, unfolding(crate::specs::Work::mixed, crate::specs::Work::bucket))]
 fn bucket_of(nexts: &NextStates<'_>, work: &[u16], q: usize) -> usize
     requires room { 6 * nexts.now.sizes.states ≤ length work.now }
     requires state { q < nexts.now.sizes.states }
     ensures { result ≡ bucket (unmarked nexts.now) work.now q }
 {
-    let signs = nexts.sizes.signs;
     let mut mixed = number_at(work, q);
-    let mut sign = 0;
-    while sign < signs {
+    for sign in 0..nexts.sizes.signs {
         let name = number_at(work, nexts.next_of(q, sign));
         mixed = (mixed * 2654435761 + name) % 4294967296;
-        sign += 1;
     }
     mixed / 65536 % nexts.sizes.states
 }
 
 // The name of a state in the next layer: one that was there before it or that it had, or its own, new, with its bucket.
-#[derive(Clone, Copy)]
+// An enum of its own, since neither case is an absence.
+#[derive(Clone, Copy, Debug, PartialEq, Eq)]
 pub enum Seek {
     Found(usize),
     New(usize),
@@ -92,9 +89,8 @@ fn name_state(nexts: &NextStates<'_>, work: &mut [u16], q: usize, layer: usize) 
     ensures { Advanced (unmarked nexts.now) work.old work.new q layer result }
 {
     let n = nexts.sizes.states;
-    let sought = seek_name(nexts, work, q);
     let found = n + q;
-    match sought {
+    match seek_name(nexts, work, q) {
         Seek::Found(r) => {
             work[found] = r as u16;
             false
@@ -114,19 +110,6 @@ fn name_state(nexts: &NextStates<'_>, work: &mut [u16], q: usize, layer: usize) 
     }
 }
 
-// Empties the buckets.
-fn clear_heads(work: &mut [u16], n: usize)
-    requires { (6 * n ≤ length work.old) × (n ≤ 1024) }
-    ensures { Emptied n n work.old work.new }
-{
-    let mut b = 0;
-    while b < n {
-        let head = 5 * n + b;
-        work[head] = 0;
-        b += 1;
-    }
-}
-
 // One round: the name of every state in the next layer; whether some name is new.
 fn run_round(nexts: &NextStates<'_>, work: &mut [u16], layer: usize) -> bool
     requires room { 6 * nexts.now.sizes.states ≤ length work.old }
@@ -135,13 +118,11 @@ fn run_round(nexts: &NextStates<'_>, work: &mut [u16], layer: usize) -> bool
     ensures { Rounded (unmarked nexts.now) work.old work.new layer nexts.now.sizes.states result }
 {
     let n = nexts.sizes.states;
-    clear_heads(work, n);
+    work[5 * n..6 * n].fill(0);
     let mut changed = false;
-    let mut q = 0;
-    while q < n {
+    for q in 0..n {
         let fresh = name_state(nexts, work, q, layer);
-        changed = either(changed, fresh);
-        q += 1;
+        changed |= fresh;
     }
     changed
 }
@@ -151,12 +132,7 @@ fn advance(work: &mut [u16], n: usize)
     requires { 2 * n ≤ length work.old }
     ensures { Moved n n work.old work.new }
 {
-    let mut x = 0;
-    while x < n {
-        let place = n + x;
-        work[x] = work[place];
-        x += 1;
-    }
+    work.copy_within(n..2 * n, 0);
 }
 
 // Runs rounds from the first names on until none finds a new name; gives how many did.

@@ -1,37 +1,26 @@
 -- The answers of running a word or a line on a file.
-use Rattle.std.specs.Prelude.{not, List, [], ◌∷◌, ℕ, eqb, ltb, leb, length}
+use Rattle.std.specs.Prelude.{not, List, [], ◌∷◌, ℕ, eqb, ltb, leb, length, Result, Ok, Err}
 use Rattle.counting.specs.Lists.{at}
 use Rattle.counting.specs.Least.{pick, least}
 use Rattle.automaton.specs.Machine.{Machine}
 use Rattle.automaton.specs.Words.{steps, ends}
-use Rattle.table.specs.declared.answer.Kind.TheVariants.{Asked}
 use Rattle.table.specs.declared.answer.Refusal.{Refusal}
-use Rattle.table.specs.Answers.{Said, gives, refusal}
+use Rattle.table.specs.Answers.{Said, gives, said_by}
 use Rattle.table.specs.Judging.{◌and_then◌, refuse, judged, signs_of}
 use Rattle.table.specs.Encoding.{machine_of}
 use Rattle.running.specs.Plan.{plan1, spelled}
-use Rattle.running.specs.declared.words.Ran.{Ran}
-use Rattle.running.specs.declared.words.Ran.TheVariants.{Ended, Refused}
-use Rattle.running.specs.declared.words.Walk.{Walk}
-use Rattle.running.specs.declared.words.Walk.TheVariants.{Stands, Strange}
 
 -- the answer of a run: the mark of the last state, or the refusal
-abbrev pub told : Ran → Said
-told (Ended mark) = gives (mark ∷ [])
-told (Refused r) = refusal r
-
--- the refusal of a walk that met a strange sign; of one that stands it is never asked
-abbrev pub strange_by : Walk → Refusal
-strange_by (Stands q) = record { kind = Asked; place = 0 }
-strange_by (Strange i) = record { kind = Asked; place = i }
+abbrev pub told : Result ℕ Refusal → Said
+told = said_by (λ mark. mark ∷ [])
 
 -- the first sign of a word that is k or more; the word's length where there is none
 unfoldable pub bad_sign : ℕ → List ℕ → ℕ
 bad_sign k word = least (length word) (λ i. leb k (at word i))
 
 -- where a walk from the start along a word ends: in a state, or at the first strange sign
-unfoldable pub walked : Machine → List ℕ → Walk
-walked M word = pick (ltb (bad_sign M.signs word) (length word)) (Strange (bad_sign M.signs word)) (Stands (steps M M.start word))
+unfoldable pub walked : Machine → List ℕ → Result ℕ ℕ
+walked M word = pick (ltb (bad_sign M.signs word) (length word)) (Err (bad_sign M.signs word)) (Ok (steps M M.start word))
 
 -- running a word: the file first, then 10 at the index of the first strange sign, then the mark of the last state
 unfoldable pub ran_word : List ℕ → List ℕ → Said

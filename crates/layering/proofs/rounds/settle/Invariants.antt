@@ -8,11 +8,11 @@ use Rattle.table.specs.Encoding.{machine_in}
 use Rattle.layering.specs.Layered.{InLayer}
 use Rattle.layering.proofs.rounds.settle.Given as goal
 
-abbrev pub invariant-loop-sizes : goal.invariant-loop-sizes
-invariant-loop-sizes l =
+abbrev pub invariant-loop-n : goal.invariant-loop-n
+invariant-loop-n l =
     (length l.work ≡ length l.initial.work)
-    × InLayer (machine_in l.sizes.states l.sizes.signs l.sizes.start (take l.sizes.states l.initial.work) l.nexts) l.i l.work
-    × ((j : ℕ) → 6 * l.sizes.states ≤ j → at l.work j ≡ at l.initial.work j)
+    × InLayer (machine_in l.nexts.sizes.states l.nexts.sizes.signs l.nexts.sizes.start (take l.nexts.sizes.states l.initial.work) l.nexts.bytes.now) l.i l.work
+    × ((j : ℕ) → 6 * l.nexts.sizes.states ≤ j → at l.work j ≡ at l.initial.work j)
 
-abbrev pub decreases-loop-sizes : goal.decreases-loop-sizes
-decreases-loop-sizes l = rounds (machine_in l.sizes.states l.sizes.signs l.sizes.start (take l.sizes.states l.initial.work) l.nexts) - l.i
+abbrev pub decreases-loop-n : goal.decreases-loop-n
+decreases-loop-n l = rounds (machine_in l.nexts.sizes.states l.nexts.sizes.signs l.nexts.sizes.start (take l.nexts.sizes.states l.initial.work) l.nexts.bytes.now) - l.i

@@ -1,18 +1,14 @@
--- `running::words::walk_line` meets its contract. The loop's invariant: the state is where the signs of the bytes passed lead.
-use Prim.Native.Nat.{ℕ, ◌≤◌, ◌<◌, ◌-◌}
+-- What the loop of `running::words::walk_line` keeps: the state is where the signs of the bytes passed lead.
+use Prim.Native.Nat.{◌<◌}
 use mathlib.Core.Path.{◌≡◌}
-use mathlib.Core.List.{[]}
-use lib.ListN.{length, take}
+use lib.ListN.{take}
 use Rattle.automaton.specs.Words.{steps}
-use Rattle.table.specs.Encoding.{machine_in, Held}
+use Rattle.table.specs.Tables.{unmarked}
 use Rattle.running.specs.Plan.{spelled}
 use Rattle.running.proofs.words.walk_line.Given as goal
 
-abbrev pub invariant-loop-i : goal.invariant-loop-i
-invariant-loop-i l =
-    (l.i ≤ length l.line)
-    × ((n : ℕ) → l.state ≡ steps (machine_in n l.signs l.fn.sizes.start [] l.nexts) l.fn.sizes.start (take l.i (spelled l.plan l.line)))
-    × ((n : ℕ) → Held n l.signs l.fn.sizes.start l.nexts → l.state < n)
-
-abbrev pub decreases-loop-i : goal.decreases-loop-i
-decreases-loop-i l = length l.line - l.i
+abbrev pub invariant-loop-byte : goal.invariant-loop-byte
+invariant-loop-byte l = record {
+  led : l.state ≡ steps (unmarked l.nexts) l.nexts.sizes.start (take l.byte-index (spelled l.plan l.line));
+  inside : l.state < l.nexts.sizes.states;
+}
