@@ -1,18 +1,15 @@
 -- A run of takes in lent memory, so far: the lists of the run and its counts. Rests on the laws of runs.
 use mathlib.Core.Path.{◌≡◌, refl, sym, ap, subst, ◌∙◌}
-use mathlib.Core.Logic.{◌≢◌}
 use mathlib.Core.Bool.{Bool, true, false, not, true≢false}
 use mathlib.Core.List.{List}
 use Prim.Native.Nat.{ℕ, ◌+◌, ◌*◌, ◌-◌, ◌≤◌, ◌<◌}
 use native.Mathlib.Nat.{not-suc-le-zero}
 use native.Mathlib.Omega.{arith}
-use borrow.Author.Tests.{ne_eqb, eqb-true, not-false}
 use lib.Dec.{eqb}
 use lib.ListN.{length}
 use Rattle.counting.specs.Lists.{at}
-use Rattle.counting.specs.Least.{pick, least}
+use Rattle.counting.specs.Least.{pick}
 use Rattle.counting.proofs.Cases.{by_test}
-use Rattle.counting.proofs.Leasts.{least_is}
 use Rattle.counting.proofs.Tallies.{any_iff, count_most}
 use Rattle.automaton.specs.Machine.{Machine, Lawful}
 use Rattle.refining.specs.Lists.{Split, WellFormed, waiting}
@@ -105,20 +102,19 @@ module _ (M : Machine) (work₀ : List ℕ) where
     same : (q : ℕ) → q < n → not (eqb (at s.pending q) 0) ≡ test q
     same q l = ap (λ (y : ℕ). not (eqb y 0)) (part_at n (7 * n) work q l)
 
-    quiet : least n test ≡ n → waiting n s ≡ false
+    quiet : ((q : ℕ) → q < n → test q ≡ false) → waiting n s ≡ false
     unfolding waiting
-    quiet e =
+    quiet none =
         by_test (waiting n s)
         (λ t.
         let (q, l, h) = (any_iff n (λ q. not (eqb (at s.pending q) 0))).0 t in
-        let f : least n test ≡ n = e in
-        absurd (true≢false (sym h ∙ same q l ∙ (least_is n test).before q (omega (arith, f)))))
+        absurd (true≢false (sym h ∙ same q l ∙ none q l)))
         (λ t. t)
 
     -- nothing waits, with some of the budget left
-    pub ran_idle : (budget : ℕ) → takes ≤ budget → n ≡ least n test → RanIn M budget work₀ work takes looked
-    ran_idle budget l e =
-        let w : waiting n (run_lists M takes s₀) ≡ false = subst (λ (t : Split). waiting n t ≡ false) d.reached (quiet (sym e)) in
+    pub ran_idle : (budget : ℕ) → takes ≤ budget → ((q : ℕ) → q < n → test q ≡ false) → RanIn M budget work₀ work takes looked
+    ran_idle budget l none =
+        let w : waiting n (run_lists M takes s₀) ≡ false = subst (λ (t : Split). waiting n t ≡ false) d.reached (quiet none) in
         let rest : ℕ = budget - takes in
         let f : takes + rest ≡ budget = omega arith in
         subst (λ (b : ℕ). RanIn M b work₀ work takes looked) f
@@ -132,20 +128,10 @@ module _ (M : Machine) (work₀ : List ℕ) where
           beyond = d.beyond;
         }
 
-    -- the first that waits is a state that waits, with none below it
-    pub first_waits : (q : ℕ) → q ≡ least n test → q ≢ n → (q < n) × (pending_of n work q ≢ 0) × ((p : ℕ) → p < q → pending_of n work p ≡ 0)
-    first_waits q e u =
-        let i = least_is n test in
-        let l : q < n = omega (arith, i.within) in (
-          l,
-          (λ z. absurd (true≢false (sym (i.holds (omega arith)) ∙ ap test (sym e) ∙ ap (λ (y : ℕ). not (eqb y 0)) z))),
-          (λ p m. eqb-true (pending_of n work p) 0 (not-false (eqb (pending_of n work p) 0) (i.before p (omega arith)))),
-        )
-
-    module _ (q : ℕ) (within : q < n) (waits : pending_of n work q ≢ 0) where
+    module _ (q : ℕ) (within : q < n) (waits : test q ≡ true) where
       awaits : waiting n s ≡ true
       unfolding waiting
-      awaits = (any_iff n (λ p. not (eqb (at s.pending p) 0))).1 (q, within, same q within ∙ ap not (ne_eqb (pending_of n work q) 0 waits))
+      awaits = (any_iff n (λ p. not (eqb (at s.pending p) 0))).1 (q, within, same q within ∙ waits)
 
       -- one take more
       pub progress_more : Lawful M → n ≤ 1024 → (work' : List ℕ) (more : ℕ) → Taken M work work' more → (split : Bool) → (split ≡ false → (p : ℕ) → p < q → pending_of n work' p ≡ 0)

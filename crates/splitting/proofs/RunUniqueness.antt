@@ -1,25 +1,25 @@
 -- The run of takes has one answer and leaves one memory.
-use mathlib.Core.Path.{◌≡◌, sym, ap, ◌∙◌}
+use mathlib.Core.Path.{◌≡◌, sym, ◌∙◌}
 use mathlib.Core.List.{List, [], ◌∷◌}
 use Prim.Native.Nat.{ℕ}
-use native.Mathlib.Omega.{arith}
 use Rattle.table.specs.Leaving.{left}
 use Rattle.table.proofs.Leavings.{left_said, left_lent}
-use Rattle.table.proofs.Uniqueness.{refusal_unique}
-use Rattle.splitting.specs.declared.runs.Ran.{Ran}
-use Rattle.splitting.specs.declared.runs.Ran.TheVariants.{Made, Refused}
+use Rattle.std.specs.Prelude.{Result}
+use Rattle.table.proofs.Uniqueness.{said_unique}
+use Rattle.table.specs.declared.answer.Refusal.{Refusal}
+use Rattle.splitting.specs.declared.runs.Tally.{Tally}
 use Rattle.splitting.specs.RunCall.{told_run, run_leaves}
 
-pub told-run_unique : (r s : Ran) → told_run r ≡ told_run s → r ≡ s
-told-run_unique (Made x) (Made y) e =
-    let f : x.takes ≡ y.takes = cc in
-    let g : x.entries ≡ y.entries = cc in
-    ap Made (λ i. record { takes = f i; entries = g i })
-told-run_unique (Made x) (Refused s) e = let z : ◌≡◌ {A = ℕ} 0 1 = cc in absurd (omega arith)
-told-run_unique (Refused r) (Made y) e = let z : ◌≡◌ {A = ℕ} 0 1 = cc in absurd (omega arith)
-told-run_unique (Refused r) (Refused s) e = ap Refused (refusal_unique r s e)
+pub told-run_unique : (r s : Result Tally Refusal) → told_run r ≡ told_run s → r ≡ s
+told-run_unique = said_unique _ one
+  where
+    one : (x y : Tally) → (x.takes ∷ x.entries ∷ []) ≡ (y.takes ∷ y.entries ∷ []) → x ≡ y
+    one x y e =
+        let f : x.takes ≡ y.takes = cc in
+        let g : x.entries ≡ y.entries = cc in
+        λ i. record { takes = f i; entries = g i }
 
-pub run_unique : (file : List ℕ) (budget : ℕ) (class pending work : List ℕ) (r s : Ran) (c p w c' p' w' : List ℕ)
+pub run_unique : (file : List ℕ) (budget : ℕ) (class pending work : List ℕ) (r s : Result Tally Refusal) (c p w c' p' w' : List ℕ)
     → left (told_run r) (c ∷ p ∷ w ∷ []) ≡ run_leaves file budget class pending work
     → left (told_run s) (c' ∷ p' ∷ w' ∷ []) ≡ run_leaves file budget class pending work
     → (r ≡ s) × (c ≡ c') × (p ≡ p') × (w ≡ w')

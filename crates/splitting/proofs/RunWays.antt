@@ -9,8 +9,9 @@ use native.Mathlib.Omega.{arith}
 use borrow.Author.Tests.{lt-ltb, le-ltb}
 use lib.Dec.{ltb}
 use lib.ListN.{length}
-use Rattle.counting.specs.Least.{pick}
-use Rattle.counting.proofs.Leasts.{least_is}
+use Rattle.std.specs.Prelude.{Some, None}
+use Rattle.counting.specs.Least.{pick, IsFirst}
+use Rattle.counting.proofs.Leasts.{first_least, least_none}
 use Rattle.automaton.specs.Machine.{Machine}
 use Rattle.refining.specs.Lists.{Split, WellFormed, formed, ill_formed}
 use Rattle.refining.specs.Take.{hits, take_by, due_hits, take as take_of, entries}
@@ -106,9 +107,9 @@ allowed_most budget = elim (dec_lt 65535 budget) [
 ]
 
 -- lists with no state where a rule fails are well formed
-pub well_formed : (n k : ℕ) (s : Split) {ill : ℕ} → ill ≡ ill_formed n k s → n ≤ ill → WellFormed n k s
+pub well_formed : (n k : ℕ) (s : Split) → IsFirst n (λ q. not (formed k s q)) None → WellFormed n k s
 unfolding ill_formed
-well_formed n k s e l = (formed_iff n k s).0 (omega (arith, (least_is n (λ q. not (formed k s q))).within))
+well_formed n k s none = (formed_iff n k s).0 (least_none n _ none)
 
 module _ (file : List ℕ) (z : Sizes) (g : Good file z) (budget : ℕ) (class pending work : List ℕ) where
   abbrev handed : Machine
@@ -142,18 +143,19 @@ module _ (file : List ℕ) (z : Sizes) (g : Good file z) (budget : ℕ) (class p
       wide : (ltb (length class) z.states || ltb (length pending) z.states) ≡ false
       wide = ap₂ ◌||◌ (le-ltb (length class) z.states class_room) (le-ltb (length pending) z.states pending_room)
 
-      pub run_ill : {ill : ℕ} → ill ≡ ill_formed z.states z.signs (lists z.states class pending) → ill < z.states
+      pub run_ill : {ill : ℕ} → IsFirst z.states (λ q. not (formed z.signs (lists z.states class pending) q)) (Some ill)
           → left (refuses 13 ill) (class ∷ pending ∷ work ∷ []) ≡ run_leaves file budget class pending work
-      unfolding run_of
-      run_ill e l =
-          ap (λ (i : ℕ). left (refuses 13 i) (class ∷ pending ∷ work ∷ [])) e
+      unfolding run_of ill_formed
+      run_ill {ill} first =
+          let e : ill_formed z.states z.signs (lists z.states class pending) ≡ ill = first_least ill first in
+          ap (λ (i : ℕ). left (refuses 13 i) (class ∷ pending ∷ work ∷ [])) (sym e)
           ∙ sym
           (given
           ∙ refuses_not 11 (16 * z.states) (class ∷ pending ∷ work ∷ []) _ (le-ltb (length work) (16 * z.states) room)
           ∙ refuses_not 12 z.states (class ∷ pending ∷ cleared (16 * z.states) work ∷ []) _ wide
-          ∙ refuses_here 13 (ill_formed z.states z.signs (lists z.states class pending)) (class ∷ pending ∷ work ∷ []) _ (lt-ltb _ z.states (omega arith)))
+          ∙ refuses_here 13 (ill_formed z.states z.signs (lists z.states class pending)) (class ∷ pending ∷ work ∷ []) _ (lt-ltb _ z.states (omega (arith, first.0))))
 
-      pub run_made : {ill : ℕ} → ill ≡ ill_formed z.states z.signs (lists z.states class pending) → z.states ≤ ill
+      pub run_made : IsFirst z.states (λ q. not (formed z.signs (lists z.states class pending) q)) None
           → {nexts mid full ran class' pending' work' : List ℕ} {takes looked allow : ℕ}
           → PutIn class (6 * z.states) z.states work mid
           → PutIn pending (7 * z.states) z.states mid full
@@ -164,12 +166,12 @@ module _ (file : List ℕ) (z : Sizes) (g : Good file z) (budget : ℕ) (class p
           → pending' ≡ written (pending_in z.states ran) pending
           → work' ≡ cleared (16 * z.states) ran
           → left (gives (takes ∷ looked ∷ [])) (class' ∷ pending' ∷ work' ∷ []) ≡ run_leaves file budget class pending work
-      unfolding run_of
-      run_made i l {class' = class'} {pending'} {takes = takes} {looked} c p x b r e f w =
+      unfolding run_of ill_formed
+      run_made none {class' = class'} {pending'} {takes = takes} {looked} c p x b r e f w =
           ap (λ (w : List ℕ). left (gives (takes ∷ looked ∷ [])) (class' ∷ pending' ∷ w ∷ [])) w
           ∙ ran_left z.states z.signs z.start (marks_in file z) (nexts_in file z) (allowed budget) class pending work _ _ _ class' pending' takes looked class_room pending_room room c p (rw (x, b) at r) e f
           ∙ sym
           (given
           ∙ refuses_not 11 (16 * z.states) (class ∷ pending ∷ work ∷ []) _ (le-ltb (length work) (16 * z.states) room)
           ∙ refuses_not 12 z.states (class ∷ pending ∷ cleared (16 * z.states) work ∷ []) _ wide
-          ∙ refuses_not 13 (ill_formed z.states z.signs (lists z.states class pending)) (class ∷ pending ∷ work ∷ []) _ (le-ltb _ z.states (omega arith)))
+          ∙ refuses_not 13 (ill_formed z.states z.signs (lists z.states class pending)) (class ∷ pending ∷ work ∷ []) _ (le-ltb _ z.states (omega (arith, least_none z.states _ none))))

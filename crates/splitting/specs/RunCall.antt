@@ -1,21 +1,20 @@
 -- The run of takes: its answer and all lent memory, for every input.
-use Rattle.std.specs.Prelude.{◌||◌, List, [], ◌∷◌, ℕ, ◌*◌, ltb, length}
+use Rattle.std.specs.Prelude.{◌||◌, List, [], ◌∷◌, ℕ, ◌*◌, ltb, length, Result}
 use Rattle.counting.specs.Least.{pick}
 use Rattle.automaton.specs.Machine.{Machine}
 use Rattle.refining.specs.Lists.{Split, ill_formed}
 use Rattle.refining.specs.Run.{run_lists, run_takes, run_entries}
 use Rattle.lending.specs.Memory.{cleared, written}
-use Rattle.table.specs.Answers.{Said, gives, refusal}
+use Rattle.table.specs.Answers.{Said, gives, said_by}
+use Rattle.table.specs.declared.answer.Refusal.{Refusal}
 use Rattle.table.specs.Leaving.{Left, left, on_file, refusing}
 use Rattle.table.specs.Encoding.{machine_of}
 use Rattle.splitting.specs.Work.{lists}
-use Rattle.splitting.specs.declared.runs.Ran.{Ran}
-use Rattle.splitting.specs.declared.runs.Ran.TheVariants.{Made, Refused}
+use Rattle.splitting.specs.declared.runs.Tally.{Tally}
 
 -- the answer of a run: takes made and entries looked at, or the refusal
-abbrev pub told_run : Ran → Said
-told_run (Made tally) = gives (tally.takes ∷ tally.entries ∷ [])
-told_run (Refused r) = refusal r
+abbrev pub told_run : Result Tally Refusal → Said
+told_run = said_by (λ tally. tally.takes ∷ tally.entries ∷ [])
 
 -- the takes that a budget allows: a larger one counts as 65,535
 unfoldable pub allowed : ℕ → ℕ

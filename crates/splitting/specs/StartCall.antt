@@ -1,18 +1,16 @@
 -- The fresh start: its answer and all lent memory, for every input.
-use Rattle.std.specs.Prelude.{◌||◌, List, [], ◌∷◌, ℕ, ltb, length}
+use Rattle.std.specs.Prelude.{◌||◌, List, [], ◌∷◌, ℕ, ltb, length, Result}
 use Rattle.automaton.specs.Machine.{Machine}
 use Rattle.refining.specs.Fresh.{fresh}
 use Rattle.lending.specs.Memory.{written}
-use Rattle.table.specs.Answers.{Said, gives, refusal}
+use Rattle.table.specs.Answers.{Said, gives, said_by}
+use Rattle.table.specs.declared.answer.Refusal.{Refusal}
 use Rattle.table.specs.Leaving.{Left, left, on_file, refusing}
 use Rattle.table.specs.Encoding.{machine_of}
-use Rattle.splitting.specs.declared.starts.Started.{Started}
-use Rattle.splitting.specs.declared.starts.Started.TheVariants.{Fresh, Refused}
 
 -- the answer of a fresh start: nothing but the lists, or the refusal
-abbrev pub told_start : Started → Said
-told_start Fresh = gives []
-told_start (Refused r) = refusal r
+abbrev pub told_start : Result (Unit {0}) Refusal → Said
+told_start = said_by (λ u. [])
 
 -- a fresh start of a machine: 12, then the fresh lists
 unfoldable pub start_of : Machine → List ℕ → List ℕ → Left

@@ -5,26 +5,19 @@ ghost use Rattle.splitting.specs.Running.{PutIn};
 
 // Copies the first n numbers of a list into the work slice, from a place on.
 pub fn copy_in(list: &[u16], work: &mut [u16], place: usize, n: usize)
-    requires { (n ≤ length list.now) × (place + n ≤ length work.old) × (place ≤ 65535) × (n ≤ 1024) }
+    requires { (n ≤ length list.now) × (place + n ≤ length work.old) }
     ensures { PutIn list.now place n work.old work.new }
 {
-    let mut x = 0;
-    while x < n {
-        let to = place + x;
-        work[to] = list[x];
-        x += 1;
-    }
+    let end = place + n;
+    work[place..end].copy_from_slice(&list[..n]);
 }
 
 // Copies n numbers of the work slice, from a place on, to the front of a list.
+#[tactic(auto, unfolding(lending::specs::Memory::written))]
 pub fn copy_out(work: &[u16], place: usize, list: &mut [u16], n: usize)
-    requires { (n ≤ length list.old) × (place + n ≤ length work.now) × (place ≤ 65535) × (n ≤ 1024) }
+    requires { (n ≤ length list.old) × (place + n ≤ length work.now) }
     ensures { list.new ≡ written (take n (drop place work.now)) list.old }
 {
-    let mut x = 0;
-    while x < n {
-        let from = place + x;
-        list[x] = work[from];
-        x += 1;
-    }
+    let end = place + n;
+    list[..n].copy_from_slice(&work[place..end]);
 }

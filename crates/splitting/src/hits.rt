@@ -1,28 +1,26 @@
 // The first pass of a take, over its sign's column: the states that lead into the class taken, counted by class; and whether a class is split.
-ghost use Rattle.std.specs.Prelude.{◌≡◌, [], ℕ, ◌+◌, ◌*◌, ◌<◌, ◌≤◌, length, take, drop, set};
-ghost use Rattle.table.specs.Encoding.{machine_in, Held};
+ghost use Rattle.std.specs.Prelude.{◌≡◌, ℕ, ◌+◌, ◌*◌, ◌<◌, ◌≤◌, length, take, drop, set};
+ghost use Rattle.table.specs.Tables.{unmarked};
 ghost use Rattle.splitting.specs.Work.{class_in, leads_to, led_of, touched_of, Classed, Counted, Unled};
 
-use lending::{either, number_at};
-use table::answer::Sizes;
-use table::fields::next_of;
+use lending::number_at;
+use table::tables::NextStates;
 
 // Whether the next state of a state under a sign lies in a class; the classes of the states stand from a place on.
+#[tactic(auto, using(crate::proofs::Places::part_at), unfolding(crate::specs::Work::leads_to))]
 pub fn leads(
-    nexts: &[u8],
-    sizes: Sizes,
+    nexts: &NextStates<'_>,
     work: &[u16],
     place: usize,
     x: usize,
     a: usize,
     q: usize,
 ) -> bool
-    requires held { Held sizes.states sizes.signs sizes.start nexts.now }
-    requires room { (place + sizes.states ≤ length work.now) × (place ≤ 65535) }
-    requires state { (x < sizes.states) × (a < sizes.signs) }
-    ensures { result ≡ leads_to (machine_in sizes.states sizes.signs sizes.start [] nexts.now) (take sizes.states (drop place work.now)) q a x }
+    requires room { (place + nexts.now.sizes.states ≤ length work.now) × (place ≤ 65535) }
+    requires state { (x < nexts.now.sizes.states) × (a < nexts.now.sizes.signs) }
+    ensures { result ≡ leads_to (unmarked nexts.now) (take nexts.now.sizes.states (drop place work.now)) q a x }
 {
-    number_at(work, place + next_of(nexts, sizes.signs, x, a)) == q
+    number_at(work, place + nexts.next_of(x, a)) == q
 }
 
 // Counts one state of class c that leads into the class taken, and notes its class as the one at a place among those touched.
@@ -35,28 +33,25 @@ fn note_hit(work: &mut [u16], n: usize, c: usize, place: usize)
     let touched = 5 * n + place;
     let led = 4 * n + c;
     work[touched] = c as u16;
-    work[led] = work[led] + 1;
+    work[led] += 1;
 }
 
 // Looks at the next state of every state under a sign; gives how many lie in the class taken.
-pub fn count_hits(nexts: &[u8], sizes: Sizes, work: &mut [u16], q: usize, a: usize) -> usize
-    requires held { Held sizes.states sizes.signs sizes.start nexts.now }
-    requires classed { Classed sizes.states (class_in sizes.states work.old) }
-    requires sign { a < sizes.signs }
-    requires room { 8 * sizes.states ≤ length work.old }
-    requires unled { (c : ℕ) → c < sizes.states → led_of sizes.states work.old c ≡ 0 }
-    ensures { Counted (machine_in sizes.states sizes.signs sizes.start [] nexts.now) (class_in sizes.states work.old) q a sizes.states work.old work.new result }
+pub fn count_hits(nexts: &NextStates<'_>, work: &mut [u16], q: usize, a: usize) -> usize
+    requires classed { Classed nexts.now.sizes.states (class_in nexts.now.sizes.states work.old) }
+    requires sign { a < nexts.now.sizes.signs }
+    requires room { 8 * nexts.now.sizes.states ≤ length work.old }
+    requires unled { (c : ℕ) → c < nexts.now.sizes.states → led_of nexts.now.sizes.states work.old c ≡ 0 }
+    ensures { Counted (unmarked nexts.now) (class_in nexts.now.sizes.states work.old) q a nexts.now.sizes.states work.old work.new result }
 {
-    let n = sizes.states;
+    let n = nexts.sizes.states;
     let classes = 6 * n;
     let mut entries = 0;
-    let mut x = 0;
-    while x < n {
-        if leads(nexts, sizes, work, classes, x, a, q) {
+    for x in 0..n {
+        if leads(nexts, work, classes, x, a, q) {
             note_hit(work, n, number_at(work, classes + x), entries);
             entries += 1;
         }
-        x += 1;
     }
     entries
 }
@@ -69,15 +64,13 @@ pub fn settle_hits(work: &mut [u16], n: usize, entries: usize) -> bool
     ensures { Unled n work.old work.new result }
 {
     let mut split = false;
-    let mut j = 0;
-    while j < entries {
+    for j in 0..entries {
         let c = number_at(work, 5 * n + j);
         let led = 4 * n + c;
         let count = number_at(work, led);
         let cut = count != 0 && count != number_at(work, c);
-        split = either(split, cut);
+        split |= cut;
         work[led] = 0;
-        j += 1;
     }
     split
 }

@@ -1,6 +1,7 @@
-// The class and pending lists judged: the least state where one of the four rules fails.
-ghost use Rattle.std.specs.Prelude.{◌≡◌, ◌<◌, ◌≤◌, length};
-ghost use Rattle.refining.specs.Lists.{formed, ill_formed};
+// The class and pending lists judged: the first state where one of the four rules fails.
+ghost use Rattle.std.specs.Prelude.{◌≡◌, not, ◌<◌, ◌≤◌, length};
+ghost use Rattle.counting.specs.Least.{IsFirst};
+ghost use Rattle.refining.specs.Lists.{formed};
 ghost use Rattle.splitting.specs.Work.{lists};
 
 use lending::number_at;
@@ -28,17 +29,15 @@ fn is_formed(class: &[u16], pending: &[u16], n: usize, signs: usize, q: usize) -
     c == q
 }
 
-// The least state where a rule fails; n where none does.
-pub fn ill_formed(class: &[u16], pending: &[u16], n: usize, signs: usize) -> usize
+// The first state where a rule fails.
+pub fn ill_formed(class: &[u16], pending: &[u16], n: usize, signs: usize) -> Option<usize>
     requires { (n ≤ length class.now) × (n ≤ length pending.now) }
-    ensures { result ≡ ill_formed n signs (lists n class.now pending.now) }
+    ensures { IsFirst n (λ q. not (formed signs (lists n class.now pending.now) q)) result }
 {
-    let mut q = 0;
-    while q < n {
+    for q in 0..n {
         if !is_formed(class, pending, n, signs, q) {
-            return q;
+            return Some(q);
         }
-        q += 1;
     }
-    n
+    None
 }

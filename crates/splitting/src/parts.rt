@@ -1,13 +1,13 @@
 // The passes of a take that splits a class: new names, the pending and sizes of the parts, and the names taken over.
-ghost use Rattle.std.specs.Prelude.{◌≡◌, [], ℕ, ◌+◌, ◌*◌, ◌<◌, ◌≤◌, length};
+ghost use Rattle.std.specs.Prelude.{◌≡◌, ℕ, ◌+◌, ◌*◌, ◌<◌, ◌≤◌, length};
 ghost use Rattle.counting.specs.Lists.{at};
-ghost use Rattle.table.specs.Encoding.{machine_in, Held};
+ghost use Rattle.table.specs.Tables.{unmarked};
 ghost use Rattle.splitting.specs.Work.{class_in, first_of, gone_of, Classed, Renamed};
 ghost use Rattle.splitting.specs.Parts.{Named, Parted, Shared, Adopted};
 
 use crate::hits::leads;
 use lending::{number_at, one_of};
-use table::answer::Sizes;
+use table::tables::NextStates;
 
 // Names a state of class c anew: where it goes, by the first of its class that goes.
 fn name_anew(work: &mut [u16], n: usize, c: usize, x: usize, goes: bool)
@@ -26,28 +26,25 @@ fn name_anew(work: &mut [u16], n: usize, c: usize, x: usize, goes: bool)
     let noted = number_at(work, first);
     let goer = one_of(noted == 0, x, noted);
     work[first] = goer as u16;
-    work[gone] = work[gone] + 1;
+    work[gone] += 1;
     work[name] = goer as u16;
 }
 
 // Names every state anew, against the classes as they stand.
-pub fn rename(nexts: &[u8], sizes: Sizes, work: &mut [u16], q: usize, a: usize)
-    requires held { Held sizes.states sizes.signs sizes.start nexts.now }
-    requires classed { Classed sizes.states (class_in sizes.states work.old) }
-    requires sign { a < sizes.signs }
-    requires room { 8 * sizes.states ≤ length work.old }
-    requires idle { (c : ℕ) → c < sizes.states → (first_of sizes.states work.old c ≡ 0) × (gone_of sizes.states work.old c ≡ 0) }
-    ensures { Renamed (machine_in sizes.states sizes.signs sizes.start [] nexts.now) (class_in sizes.states work.old) q a sizes.states work.old work.new }
+pub fn rename(nexts: &NextStates<'_>, work: &mut [u16], q: usize, a: usize)
+    requires classed { Classed nexts.now.sizes.states (class_in nexts.now.sizes.states work.old) }
+    requires sign { a < nexts.now.sizes.signs }
+    requires room { 8 * nexts.now.sizes.states ≤ length work.old }
+    requires idle { (c : ℕ) → c < nexts.now.sizes.states → (first_of nexts.now.sizes.states work.old c ≡ 0) × (gone_of nexts.now.sizes.states work.old c ≡ 0) }
+    ensures { Renamed (unmarked nexts.now) (class_in nexts.now.sizes.states work.old) q a nexts.now.sizes.states work.old work.new }
 {
-    let n = sizes.states;
+    let n = nexts.sizes.states;
     let classes = 6 * n;
-    let mut x = 0;
-    while x < n {
+    for x in 0..n {
         let c = number_at(work, classes + x);
-        let own = leads(nexts, sizes, work, classes, x, a, q);
-        let name = leads(nexts, sizes, work, classes, c, a, q);
+        let own = leads(nexts, work, classes, x, a, q);
+        let name = leads(nexts, work, classes, c, a, q);
         name_anew(work, n, c, x, own != name);
-        x += 1;
     }
 }
 
@@ -86,10 +83,8 @@ pub fn share(work: &mut [u16], n: usize, signs: usize)
     requires single { (p r : ℕ) → p < n → r < n → (first_of n work.old p ≡ 0 → ⊥) → first_of n work.old p ≡ first_of n work.old r → p ≡ r }
     ensures { Shared n signs n work.old work.new }
 {
-    let mut p = 0;
-    while p < n {
+    for p in 0..n {
         share_class(work, n, signs, p);
-        p += 1;
     }
 }
 
@@ -98,11 +93,9 @@ pub fn adopt(work: &mut [u16], n: usize)
     requires { (8 * n ≤ length work.old) × (n ≤ 1024) }
     ensures { Adopted n n work.old work.new }
 {
-    let mut x = 0;
-    while x < n {
+    for x in 0..n {
         let name = 3 * n + x;
         let class = 6 * n + x;
         work[class] = work[name];
-        x += 1;
     }
 }

@@ -1,7 +1,7 @@
 // A run of takes under a budget.
 ghost use Rattle.std.specs.Prelude.{◌≡◌, not, [], ◌∷◌, ℕ, ◌*◌, ◌<◌, ◌≤◌, eqb, length};
 ghost use Rattle.counting.specs.Lists.{at};
-ghost use Rattle.counting.specs.Least.{least};
+ghost use Rattle.counting.specs.Least.{IsFirst};
 ghost use Rattle.counting.specs.Counts.{count};
 ghost use Rattle.refining.specs.Lists.{WellFormed};
 ghost use Rattle.table.specs.Tables.{unmarked};
@@ -34,11 +34,9 @@ fn count_sizes(work: &mut [u16], n: usize)
     ensures sizes { (c : ℕ) → c < n → size_of work.new c ≡ count n (λ x. eqb (at (class_in n work.old) x) c) }
     ensures beyond { (i : ℕ) → n ≤ i → at work.new i ≡ at work.old i }
 {
-    let mut x = 0;
-    while x < n {
+    for x in 0..n {
         let c = number_at(work, 6 * n + x);
-        work[c] = work[c] + 1;
-        x += 1;
+        work[c] += 1;
     }
 }
 
@@ -54,52 +52,43 @@ fn make_ready(work: &mut [u16], n: usize)
     count_sizes(work, n);
 }
 
-// The least class that waits; n where none does. None below a known state waits.
-fn first_waiting(work: &[u16], n: usize, low: usize) -> usize
+// The first class that waits. None below a known state waits.
+fn first_waiting(work: &[u16], n: usize, low: usize) -> Option<usize>
     requires room { (8 * n ≤ length work.now) × (n ≤ 1024) × (low ≤ n) }
     requires none { (p : ℕ) → p < low → pending_of n work.now p ≡ 0 }
-    ensures { result ≡ least n (λ q. not (eqb (pending_of n work.now q) 0)) }
+    ensures { IsFirst n (λ q. not (eqb (pending_of n work.now q) 0)) result }
 {
     let pending = 7 * n;
-    let mut q = low;
-    while q < n {
+    for q in low..n {
         if number_at(work, pending + q) != 0 {
-            return q;
+            return Some(q);
         }
-        q += 1;
     }
-    n
+    None
 }
 
 // Makes takes until the budget is used or nothing waits, on a work slice that is ready.
-fn make_takes(nexts: &[u8], sizes: Sizes, budget: usize, work: &mut [u16]) -> Tally
-    requires held { Held sizes.states sizes.signs sizes.start nexts.now }
+fn make_takes(nexts: &NextStates<'_>, budget: usize, work: &mut [u16]) -> Tally
     requires room { budget ≤ 65535 }
-    requires formed { WellFormed sizes.states sizes.signs (lists_in sizes.states work.old) }
-    requires ready { Ready sizes.states work.old }
-    ensures { RanIn (machine_in sizes.states sizes.signs sizes.start [] nexts.now) budget work.old work.new result.takes result.entries }
+    requires formed { WellFormed nexts.now.sizes.states nexts.now.sizes.signs (lists_in nexts.now.sizes.states work.old) }
+    requires ready { Ready nexts.now.sizes.states work.old }
+    ensures { RanIn (unmarked nexts.now) budget work.old work.new result.takes result.entries }
 {
-    let n = sizes.states;
-    let mut takes = 0;
+    let n = nexts.sizes.states;
     let mut entries = 0;
     let mut low = 0;
-    while takes < budget {
-        let q = first_waiting(work, n, low);
-        if q == n {
-            return Tally {
-                takes: takes,
-                entries: entries,
-            };
-        }
-        let look = take_one(nexts, sizes, work, q);
+    for takes in 0..budget {
+        let Some(q) = first_waiting(work, n, low) else {
+            return Tally { takes, entries };
+        };
+        let look = take_one(nexts, work, q);
         // Where a class was split the search begins anew, else at the class just taken.
         low = one_of(look.split, 0, q);
         entries += look.entries;
-        takes += 1;
     }
     Tally {
-        takes: takes,
-        entries: entries,
+        takes: budget,
+        entries,
     }
 }
 
@@ -114,6 +103,7 @@ pub fn run_takes(nexts: &NextStates<'_>, budget: usize, work: &mut [u16]) -> Tal
 }
 
 // A budget above 65,535 counts as 65,535.
+#[tactic(auto, unfolding(crate::specs::RunCall::allowed, counting::specs::Least::pick))]
 fn allowed_takes(budget: usize) -> usize
     ensures { result ≡ allowed budget }
 {
@@ -127,41 +117,37 @@ pub fn run(
     class: &mut [u16],
     pending: &mut [u16],
     work: &mut [u16],
-) -> Ran
+) -> Result<Tally, Refusal>
     ensures { left (told_run result) (class.new ∷ pending.new ∷ work.new ∷ []) ≡ run_leaves file.now budget class.old pending.old work.old }
 {
-    let judged = judge(file);
-    let Judged::Accepted(sizes) = judged else {
-        return Ran::Refused(refused_by(judged));
-    };
+    let table = table_in(file)?;
+    let sizes = table.nexts.sizes;
     let n = sizes.states;
     let room = 16 * n;
     if work.len() < room {
-        return Ran::Refused(Refusal {
+        return Err(Refusal {
             kind: Kind::Work,
             place: room,
         });
     }
     if class.len() < n || pending.len() < n {
         clear(work, room);
-        return Ran::Refused(Refusal {
+        return Err(Refusal {
             kind: Kind::Room,
             place: n,
         });
     }
-    let ill = ill_formed(class, pending, n, sizes.signs);
-    if ill < n {
-        return Ran::Refused(Refusal {
+    if let Some(ill) = ill_formed(class, pending, n, sizes.signs) {
+        return Err(Refusal {
             kind: Kind::Lists,
             place: ill,
         });
     }
-    let nexts = field_of(file, sizes, 3);
     copy_in(class, work, 6 * n, n);
     copy_in(pending, work, 7 * n, n);
-    let tally = run_takes(nexts, sizes, allowed_takes(budget), work);
+    let tally = run_takes(&table.nexts, allowed_takes(budget), work);
     copy_out(work, 6 * n, class, n);
     copy_out(work, 7 * n, pending, n);
     clear(work, room);
-    Ran::Made(tally)
+    Ok(tally)
 }

@@ -17,18 +17,16 @@ loop-j-preserved c =
     let t = c.loop-j-test.true in
     let k = c.number_at-c.result in
     let e = c.number_at-count.ensures.value in
-    let within : k < n = omega (arith, c.number_at-c.ensures.value, l.invariant.1.beyond (5 * n + l.j) (omega arith), c.requires.within l.j t) in
+    let within : k < n = omega (arith, c.number_at-c.ensures.value, l.invariant.beyond (5 * n + l.j) (omega arith), c.requires.within l.j t) in
     let cut_is : c.if-count-ne0.cut ≡ cut_in n l.work k = elim c.if-count-ne0.branch [
       | then-count-ne0 w ↦ w.cut-is ∙ ap₂ (λ (x y : ℕ). not (eqb x y)) e w.number_at.ensures.value ∙ sym (cut_some n l.work k (λ z. w.if-count-ne0.true (e ∙ z)))
       | else-count-ne0 w ↦ w.cut-is ∙ ap not (eq-eqb _ 0 w.if-count-ne0.false) ∙ sym (cut_none n l.work k (sym e ∙ w.if-count-ne0.false))
-    ] in (
-      omega (arith, t),
-      subst (Unleading _ _ _ _) (sym c.either-split.ensures) (unleading_more n a.work.now l.j k l.work l.split c.if-count-ne0.cut c.requires.room.0 within c.number_at-c.ensures.value cut_is l.invariant.1 (omega (arith, t, c.requires.room.1))),
-    )
+    ] in
+    unleading_more n a.work.now l.j k l.work l.split c.if-count-ne0.cut c.requires.room.0 within c.number_at-c.ensures.value cut_is l.invariant (omega (arith, t, c.requires.room.1))
 
 pub returns : goal.returns
 returns c =
     let l = c.loop-j in
     let a = c.args in
-    let e : l.j ≡ a.entries = omega (arith, l.invariant.0, c.loop-j-test.false) in
-    unled_all a.n a.work.now a.entries l.work l.split c.requires.touched (subst (λ (j : ℕ). Unleading a.n j a.work.now l.work l.split) e l.invariant.1)
+    let e : l.j ≡ a.entries = omega arith in
+    unled_all a.n a.work.now a.entries l.work l.split c.requires.touched (subst (λ (j : ℕ). Unleading a.n j a.work.now l.work l.split) e l.invariant)

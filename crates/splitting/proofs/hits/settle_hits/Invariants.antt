@@ -1,10 +1,7 @@
 -- What the loop of `splitting::hits::settle_hits` keeps: the classes touched before place j are looked through.
-use Prim.Native.Nat.{◌≤◌, ◌-◌}
+use Prim.Native.Nat.{◌≤◌}
 use Rattle.splitting.proofs.Unleading.{Unleading}
 use Rattle.splitting.proofs.hits.settle_hits.Given as goal
 
 abbrev pub invariant-loop-j : goal.invariant-loop-j
-invariant-loop-j l = (l.j ≤ l.entries) × Unleading l.n l.j l.initial.work l.work l.split
-
-abbrev pub decreases-loop-j : goal.decreases-loop-j
-decreases-loop-j l = l.entries - l.j
+invariant-loop-j l = Unleading l.n l.j l.initial.work l.work l.split

@@ -1,5 +1,5 @@
 -- What the loop of `splitting::lists::ill_formed` keeps: the states passed keep the rules.
-use Prim.Native.Nat.{ℕ, ◌≤◌, ◌<◌, ◌-◌}
+use Prim.Native.Nat.{ℕ, ◌<◌}
 use mathlib.Core.Path.{◌≡◌}
 use mathlib.Core.Bool.{false, not}
 use Rattle.refining.specs.Lists.{formed}
@@ -7,7 +7,4 @@ use Rattle.splitting.specs.Work.{lists}
 use Rattle.splitting.proofs.lists.ill_formed.Given as goal
 
 abbrev pub invariant-loop-q : goal.invariant-loop-q
-invariant-loop-q l = (l.q ≤ l.n) × ((p : ℕ) → p < l.q → not (formed l.signs (lists l.n l.class l.pending) p) ≡ false)
-
-abbrev pub decreases-loop-q : goal.decreases-loop-q
-decreases-loop-q l = l.n - l.q
+invariant-loop-q l = (p : ℕ) → p < l.q → not (formed l.signs (lists l.n l.class l.pending) p) ≡ false

@@ -4,14 +4,14 @@ use Rattle.splitting.proofs.Sharing.{Fit, shared_none, first_ahead, part_ahead, 
 use Rattle.splitting.proofs.parts.share.Goals as goal
 
 pub loop-p-init : goal.loop-p-init
-loop-p-init c = (omega arith, shared_none c.args.n c.args.signs c.args.work.now)
+loop-p-init c = shared_none c.args.n c.args.signs c.args.work.now
 
 pub share_class-requires-clause-within : goal.share_class-requires-clause-within
 share_class-requires-clause-within c =
     let a = c.args in
     let l = c.loop-p in
     let t = c.loop-p-test.true in
-    (t, omega (arith, first_ahead a.n a.signs l.p a.work.now l.work t l.invariant.1, (c.requires.within l.p t).0))
+    (t, omega (arith, first_ahead a.n a.signs l.p a.work.now l.work t l.invariant, (c.requires.within l.p t).0))
 
 pub share_class-requires-clause-part : goal.share_class-requires-clause-part
 share_class-requires-clause-part c =
@@ -19,7 +19,7 @@ share_class-requires-clause-part c =
     let l = c.loop-p in
     let t = c.loop-p-test.true in
     let fit : Fit a.n a.work.now = record { within = λ p m. (c.requires.within p m).0; apart = c.requires.apart; single = c.requires.single } in
-    part_ahead a.n a.signs l.p a.work.now l.work t l.invariant.1 fit (c.requires.within l.p t).1
+    part_ahead a.n a.signs l.p a.work.now l.work t l.invariant fit (c.requires.within l.p t).1
 
 pub loop-p-preserved : goal.loop-p-preserved
 loop-p-preserved c =
@@ -27,4 +27,4 @@ loop-p-preserved c =
     let l = c.loop-p in
     let t = c.loop-p-test.true in
     let fit : Fit a.n a.work.now = record { within = λ p m. (c.requires.within p m).0; apart = c.requires.apart; single = c.requires.single } in
-    (omega (arith, t), shared_more a.n a.signs l.p a.work.now l.work t l.invariant.1 fit _ c.share_class.ensures)
+    shared_more a.n a.signs l.p a.work.now l.work t l.invariant fit _ c.share_class.ensures

@@ -1,10 +1,7 @@
 -- What the loop of `splitting::parts::share` keeps: the classes below p are shared.
-use Prim.Native.Nat.{◌≤◌, ◌-◌}
+use Prim.Native.Nat.{◌≤◌}
 use Rattle.splitting.specs.Parts.{Shared}
 use Rattle.splitting.proofs.parts.share.Given as goal
 
 abbrev pub invariant-loop-p : goal.invariant-loop-p
-invariant-loop-p l = (l.p ≤ l.n) × Shared l.n l.signs l.p l.initial.work l.work
-
-abbrev pub decreases-loop-p : goal.decreases-loop-p
-decreases-loop-p l = l.n - l.p
+invariant-loop-p l = Shared l.n l.signs l.p l.initial.work l.work

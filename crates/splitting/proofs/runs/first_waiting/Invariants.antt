@@ -1,5 +1,5 @@
 -- What the loop of `splitting::runs::first_waiting` keeps: the states passed don't wait.
-use Prim.Native.Nat.{ℕ, ◌≤◌, ◌<◌, ◌-◌}
+use Prim.Native.Nat.{ℕ, ◌<◌}
 use mathlib.Core.Path.{◌≡◌}
 use mathlib.Core.Bool.{false, not}
 use lib.Dec.{eqb}
@@ -7,7 +7,4 @@ use Rattle.splitting.specs.Work.{pending_of}
 use Rattle.splitting.proofs.runs.first_waiting.Given as goal
 
 abbrev pub invariant-loop-q : goal.invariant-loop-q
-invariant-loop-q l = (l.q ≤ l.n) × ((p : ℕ) → p < l.q → not (eqb (pending_of l.n l.work p) 0) ≡ false)
-
-abbrev pub decreases-loop-q : goal.decreases-loop-q
-decreases-loop-q l = l.n - l.q
+invariant-loop-q l = (p : ℕ) → p < l.q → not (eqb (pending_of l.n l.work p) 0) ≡ false
