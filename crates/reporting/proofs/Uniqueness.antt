@@ -2,30 +2,34 @@
 use mathlib.Core.Path.{◌≡◌, sym, ap, ◌∙◌}
 use mathlib.Core.List.{List, [], ◌∷◌}
 use Prim.Native.Nat.{ℕ}
-use native.Mathlib.Omega.{arith}
+use Rattle.std.specs.Prelude.{Result}
 use Rattle.table.specs.Leaving.{left}
 use Rattle.table.proofs.Leavings.{left_said, left_lent}
-use Rattle.table.proofs.Uniqueness.{refusal_unique}
-use Rattle.reporting.specs.declared.Summary.{Summary}
-use Rattle.reporting.specs.declared.Summary.TheVariants.{Found, Refused}
+use Rattle.table.proofs.Uniqueness.{said_unique}
+use Rattle.table.specs.declared.answer.Refusal.{Refusal}
+use Rattle.reporting.specs.declared.Numbers.{Numbers}
 use Rattle.reporting.specs.Reports.{told, report_leaves}
 
-pub told_unique : (r s : Summary) → told r ≡ told s → r ≡ s
-told_unique (Found x) (Found y) e =
-    let n : x.sizes.states ≡ y.sizes.states = cc in
-    let k : x.sizes.signs ≡ y.sizes.signs = cc in
-    let b : x.sizes.start ≡ y.sizes.start = cc in
-    let m : x.classes ≡ y.classes = cc in
-    let r : x.rounds ≡ y.rounds = cc in
-    let t : x.takes ≡ y.takes = cc in
-    let l : x.entries ≡ y.entries = cc in
-    let w : x.rows ≡ y.rows = cc in
-    ap Found (λ i. record { sizes = record { states = n i; signs = k i; start = b i }; classes = m i; rounds = r i; takes = t i; entries = l i; rows = w i })
-told_unique (Found x) (Refused s) e = let z : ◌≡◌ {A = ℕ} 0 1 = cc in absurd (omega arith)
-told_unique (Refused r) (Found y) e = let z : ◌≡◌ {A = ℕ} 0 1 = cc in absurd (omega arith)
-told_unique (Refused r) (Refused s) e = ap Refused (refusal_unique r s e)
+pub told_unique : (r s : Result Numbers Refusal) → told r ≡ told s → r ≡ s
+told_unique = said_unique values one
+  where
+    values : Numbers → List ℕ
+    values v = v.sizes.states ∷ v.sizes.signs ∷ v.sizes.start ∷ v.classes ∷ v.rounds ∷ v.takes ∷ v.entries ∷ v.rows ∷ []
 
-pub report_unique : (file work names pending out : List ℕ) (r s : Summary) (w c p o w' c' p' o' : List ℕ)
+    one : (x y : Numbers) → values x ≡ values y → x ≡ y
+    unfolding values
+    one x y e =
+        let n : x.sizes.states ≡ y.sizes.states = cc in
+        let k : x.sizes.signs ≡ y.sizes.signs = cc in
+        let b : x.sizes.start ≡ y.sizes.start = cc in
+        let m : x.classes ≡ y.classes = cc in
+        let r : x.rounds ≡ y.rounds = cc in
+        let t : x.takes ≡ y.takes = cc in
+        let l : x.entries ≡ y.entries = cc in
+        let w : x.rows ≡ y.rows = cc in
+        λ i. record { sizes = record { states = n i; signs = k i; start = b i }; classes = m i; rounds = r i; takes = t i; entries = l i; rows = w i }
+
+pub report_unique : (file work names pending out : List ℕ) (r s : Result Numbers Refusal) (w c p o w' c' p' o' : List ℕ)
     → left (told r) (w ∷ c ∷ p ∷ o ∷ []) ≡ report_leaves file work names pending out
     → left (told s) (w' ∷ c' ∷ p' ∷ o' ∷ []) ≡ report_leaves file work names pending out
     → (r ≡ s) × (w ≡ w') × (c ≡ c') × (p ≡ p') × (o ≡ o')

@@ -1,53 +1,25 @@
 -- The report on a table: its answer and all lent memory, for every input; and, where that memory is long enough for every file, what it says of the file.
-use Rattle.std.specs.Prelude.{◌≡◌, List, [], ◌∷◌, ℕ, ◌≤◌, length, get_or, take}
+use Rattle.std.specs.Prelude.{◌≡◌, List, [], ◌∷◌, ℕ, ◌≤◌, length, get_or, take, Result}
 use Rattle.counting.specs.Lists.{at}
 use Rattle.automaton.specs.Layers.{classes, class_count, rounds}
 use Rattle.automaton.specs.Quotient.{rows}
 use Rattle.refining.specs.Fresh.{fresh}
 use Rattle.refining.specs.Run.{run_takes, run_entries}
-use Rattle.table.specs.Answers.{Said, gives, refusal, when_given}
+use Rattle.table.specs.Answers.{Said, gives, said_by, when_given}
 use Rattle.table.specs.Judging.{judged, states_of, signs_of, start_of, ◌and_then◌}
 use Rattle.table.specs.Leaving.{Left, left, on_file}
 use Rattle.table.specs.Encoding.{machine_of}
-use Rattle.table.specs.declared.answer.Kind.TheVariants.{Short}
 use Rattle.table.specs.declared.answer.Refusal.{Refusal}
-use Rattle.layering.specs.declared.layers.Layered.{Layered}
-use Rattle.layering.specs.declared.layers.Layered.TheVariants.{Found as LayersFound, Refused as LayersRefused}
 use Rattle.layering.specs.Calls.{layers_leave}
 use Rattle.splitting.specs.StartCall.{start_leaves}
 use Rattle.splitting.specs.RunCall.{run_leaves}
 use Rattle.splitting.specs.Sequence.{values}
 use Rattle.shrinking.specs.Calls.{shrink_leaves}
-use Rattle.splitting.specs.declared.starts.Started.{Started}
-use Rattle.splitting.specs.declared.starts.Started.TheVariants.{Fresh, Refused as StartRefused}
-use Rattle.splitting.specs.declared.runs.Ran.{Ran}
-use Rattle.splitting.specs.declared.runs.Ran.TheVariants.{Made as RunMade, Refused as RunRefused}
-use Rattle.shrinking.specs.declared.shrinks.Shrinking.{Shrinking}
-use Rattle.shrinking.specs.declared.shrinks.Shrinking.TheVariants.{Made as ShrinkMade, Refused as ShrinkRefused}
-use Rattle.reporting.specs.declared.Summary.{Summary}
-use Rattle.reporting.specs.declared.Summary.TheVariants.{Found, Refused}
+use Rattle.reporting.specs.declared.Numbers.{Numbers}
 
 -- the answer: n, k, start, m, r, takes, entries, rows; or the refusal
-abbrev pub told : Summary → Said
-told (Found v) = gives (v.sizes.states ∷ v.sizes.signs ∷ v.sizes.start ∷ v.classes ∷ v.rounds ∷ v.takes ∷ v.entries ∷ v.rows ∷ [])
-told (Refused r) = refusal r
-
--- the refusals of the calls; of one that answers it is never asked
-abbrev pub layered_refusal : Layered → Refusal
-layered_refusal (LayersFound counts) = record { kind = Short; place = 0 }
-layered_refusal (LayersRefused r) = r
-
-abbrev pub started_refusal : Started → Refusal
-started_refusal Fresh = record { kind = Short; place = 0 }
-started_refusal (StartRefused r) = r
-
-abbrev pub ran_refusal : Ran → Refusal
-ran_refusal (RunMade tally) = record { kind = Short; place = 0 }
-ran_refusal (RunRefused r) = r
-
-abbrev pub shrinking_refusal : Shrinking → Refusal
-shrinking_refusal (ShrinkMade size) = record { kind = Short; place = 0 }
-shrinking_refusal (ShrinkRefused r) = r
+abbrev pub told : Result Numbers Refusal → Said
+told = said_by (λ v. v.sizes.states ∷ v.sizes.signs ∷ v.sizes.start ∷ v.classes ∷ v.rounds ∷ v.takes ∷ v.entries ∷ v.rows ∷ [])
 
 -- Lengths of lent memory that are enough for every file.
 pub record Roomy (w c p o : ℕ) : Type 0 where
