@@ -31,45 +31,45 @@ module _ (file work names pending out : List ℕ) where
       (left said (work' ∷ names' ∷ pending' ∷ out' ∷ []) ≡ report_leaves file work names pending out)
       × (Roomy (length work) (length names) (length pending) (length out) → Reported file said names')
 
-  pub out_judged : {r : Refusal} → judged file ≡ refusal r → Owed (refusal r) work names pending out
+  pub out_judged : (r : Refusal) → judged file ≡ refusal r → Owed (refusal r) work names pending out
   unfolding report_leaves
-  out_judged refused = (sym (file_refused file (work ∷ names ∷ pending ∷ out ∷ []) _ refused), λ room. reported_refused file names refused)
+  out_judged r refused = (sym (file_refused file (work ∷ names ∷ pending ∷ out ∷ []) _ refused), λ room. reported_refused file names refused)
 
   module _ {z : Sizes} (g : Good file z) where
-    pub out_layers : {r : Refusal} {work₁ names₁ : List ℕ} → left (refusal r) (work₁ ∷ names₁ ∷ []) ≡ layers_leave file work names → Owed (refusal r) work₁ names₁ pending out
+    pub out_layers : (r : Refusal) {work₁ names₁ : List ℕ} → left (refusal r) (work₁ ∷ names₁ ∷ []) ≡ layers_leave file work names → Owed (refusal r) work₁ names₁ pending out
     unfolding report_leaves on_file first when_given
-    out_layers l = (rw (good_given g, sym l), λ room. absurd (not_refused (sym (layers_said file g.right work names room.work room.classes l))))
+    out_layers r l = (rw (good_given g, sym l), λ room. absurd (not_refused (sym (layers_said file g.right work names room.work room.classes l))))
 
-    module _ {counts : Counts} {work₁ names₁ : List ℕ} (l : left (gives (counts.classes ∷ counts.rounds ∷ [])) (work₁ ∷ names₁ ∷ []) ≡ layers_leave file work names)
+    module _ (counts : Counts) {work₁ names₁ : List ℕ} (l : left (gives (counts.classes ∷ counts.rounds ∷ [])) (work₁ ∷ names₁ ∷ []) ≡ layers_leave file work names)
         (work_long : length work₁ ≡ length work) (names-long : length names₁ ≡ length names) where
-      pub out_start : {r : Refusal} {names₂ pending₁ : List ℕ} → left (refusal r) (names₂ ∷ pending₁ ∷ []) ≡ start_leaves file names₁ pending → Owed (refusal r) work₁ names₂ pending₁ out
+      pub out_start : (r : Refusal) {names₂ pending₁ : List ℕ} → left (refusal r) (names₂ ∷ pending₁ ∷ []) ≡ start_leaves file names₁ pending → Owed (refusal r) work₁ names₂ pending₁ out
       unfolding report_leaves on_file first when_given
-      out_start s = (
+      out_start r s = (
         rw (good_given g, sym l, sym s),
         λ room. absurd (not_refused (sym (start_said file g.right names₁ pending work₁ (omega arith) room.pending (omega arith) s))),
       )
 
       module _ {names₂ pending₁ : List ℕ} (s : left (gives []) (names₂ ∷ pending₁ ∷ []) ≡ start_leaves file names₁ pending) where
-        pub out_run : {r : Refusal} {names₃ pending₂ work₂ : List ℕ} → left (refusal r) (names₃ ∷ pending₂ ∷ work₂ ∷ []) ≡ run_leaves file 65535 names₂ pending₁ work₁ → Owed (refusal r) work₂ names₃ pending₂ out
+        pub out_run : (r : Refusal) {names₃ pending₂ work₂ : List ℕ} → left (refusal r) (names₃ ∷ pending₂ ∷ work₂ ∷ []) ≡ run_leaves file 65535 names₂ pending₁ work₁ → Owed (refusal r) work₂ names₃ pending₂ out
         unfolding report_leaves on_file first when_given
-        out_run t = (
+        out_run r t = (
           rw (good_given g, sym l, sym s, sym t),
           λ room. absurd (run_given file g.right names₁ pending work₁ (omega arith) room.pending (omega arith) names₂ pending₁ s t),
         )
 
-        module _ {tally : Tally} {names₃ pending₂ work₂ : List ℕ} (t : left (gives (tally.takes ∷ tally.entries ∷ [])) (names₃ ∷ pending₂ ∷ work₂ ∷ []) ≡ run_leaves file 65535 names₂ pending₁ work₁)
+        module _ (tally : Tally) {names₃ pending₂ work₂ : List ℕ} (t : left (gives (tally.takes ∷ tally.entries ∷ [])) (names₃ ∷ pending₂ ∷ work₂ ∷ []) ≡ run_leaves file 65535 names₂ pending₁ work₁)
             (work-long₂ : length work₂ ≡ length work₁) where
-          pub out_shrink : {r : Refusal} {work₃ out₁ : List ℕ} → left (refusal r) (work₃ ∷ out₁ ∷ []) ≡ shrink_leaves file work₂ out → Owed (refusal r) work₃ names₃ pending₂ out₁
+          pub out_shrink : (r : Refusal) {work₃ out₁ : List ℕ} → left (refusal r) (work₃ ∷ out₁ ∷ []) ≡ shrink_leaves file work₂ out → Owed (refusal r) work₃ names₃ pending₂ out₁
           unfolding report_leaves on_file first when_given
-          out_shrink u = (
+          out_shrink r u = (
             rw (good_given g, sym l, sym s, sym t, sym u),
             λ room. absurd (not_refused (sym (shrink_said file g.right work₂ out (omega arith) room.out u))),
           )
 
-          pub out_made : {size : Size} {work₃ out₁ : List ℕ} → left (gives (size.rows ∷ size.length ∷ [])) (work₃ ∷ out₁ ∷ []) ≡ shrink_leaves file work₂ out
+          pub out_made : (size : Size) {work₃ out₁ : List ℕ} → left (gives (size.rows ∷ size.length ∷ [])) (work₃ ∷ out₁ ∷ []) ≡ shrink_leaves file work₂ out
               → Owed (gives (z.states ∷ z.signs ∷ z.start ∷ counts.classes ∷ counts.rounds ∷ tally.takes ∷ tally.entries ∷ size.rows ∷ [])) work₃ names₃ pending₂ out₁
           unfolding report_leaves on_file first when_given values
-          out_made u = (
+          out_made size u = (
             rw (good_given g, sym l, sym s, sym t, sym u, g.states, g.signs, g.start),
             λ room.
                 reported_made file g.right names₁ pending work₁ (omega arith) room.pending (omega arith) names₂ pending₁ s names₃ pending₂ work₂ t g

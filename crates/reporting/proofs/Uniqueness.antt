@@ -11,13 +11,12 @@ use Rattle.reporting.specs.declared.Numbers.{Numbers}
 use Rattle.reporting.specs.Reports.{told, report_leaves}
 
 pub told_unique : (r s : Result Numbers Refusal) → told r ≡ told s → r ≡ s
-told_unique = said_unique values one
+told_unique = said_unique _ one
   where
-    values : Numbers → List ℕ
-    values v = v.sizes.states ∷ v.sizes.signs ∷ v.sizes.start ∷ v.classes ∷ v.rounds ∷ v.takes ∷ v.entries ∷ v.rows ∷ []
-
-    one : (x y : Numbers) → values x ≡ values y → x ≡ y
-    unfolding values
+    one : (x y : Numbers)
+        → (x.sizes.states ∷ x.sizes.signs ∷ x.sizes.start ∷ x.classes ∷ x.rounds ∷ x.takes ∷ x.entries ∷ x.rows ∷ [])
+        ≡ (y.sizes.states ∷ y.sizes.signs ∷ y.sizes.start ∷ y.classes ∷ y.rounds ∷ y.takes ∷ y.entries ∷ y.rows ∷ [])
+        → x ≡ y
     one x y e =
         let n : x.sizes.states ≡ y.sizes.states = cc in
         let k : x.sizes.signs ≡ y.sizes.signs = cc in
