@@ -1,6 +1,7 @@
 -- The first names, state by state.
-use mathlib.Core.Path.{◌≡◌, refl, sym, subst, ◌∙◌}
-use mathlib.Core.Bool.{Bool, true, false, not}
+use mathlib.Core.Path.{◌≡◌, refl, sym, ap, subst, ◌∙◌}
+use mathlib.Core.Logic.{◌≢◌}
+use mathlib.Core.Bool.{Bool}
 use mathlib.Core.List.{List}
 use Prim.Native.Nat.{ℕ, suc, ◌+◌, ◌*◌, ◌≤◌, ◌<◌}
 use native.Mathlib.Nat.{not-suc-le-zero}
@@ -11,10 +12,11 @@ use borrow.Author.Tests.{eqb-true, eqb-false, eq-eqb, ne_eqb}
 use lib.Dec.{eqb}
 use lib.ListN.{length, set, length-set}
 use lib.Seq.{get_or-set_same, get_or-set_other}
+use Rattle.std.specs.Prelude.{Option, None, Some}
+use Rattle.core.specs.Option.{unwrap_or}
 use Rattle.counting.specs.Lists.{at}
-use Rattle.counting.specs.Least.{least, name, pick}
-use Rattle.counting.proofs.Cases.{by_test}
-use Rattle.counting.proofs.Leasts.{IsLeast, least_unique, least_at, least-past}
+use Rattle.counting.specs.Least.{name, IsFirst}
+use Rattle.counting.proofs.Leasts.{first_least}
 use Rattle.layering.specs.Layered.{FirstNamed, Begun}
 use Rattle.layering.proofs.Emptying.{Zeroed}
 
@@ -45,35 +47,52 @@ begun_born n marks w₀ w v a b = record {
 abbrev pub has : List ℕ → ℕ → ℕ → Bool
 has marks m y = eqb (at marks y) m
 
--- the first state of a mark, with one state more
-pub past-least : (q m x : ℕ) (marks : List ℕ) (here : Bool) → has marks m q ≡ here → IsLeast q (has marks m) x → IsLeast (q + 1) (has marks m) (pick here x (pick (eqb x q) (suc q) x))
-unfolding pick
-past-least q m x marks true e h = subst (λ (p : ℕ). IsLeast p (has marks m) x) (sym (add-one q)) (least_at q (has marks m) x h e)
-past-least q m x marks false e h = subst (λ (p : ℕ). IsLeast p (has marks m) (pick (eqb x q) (suc q) x)) (sym (add-one q)) (least-past q (has marks m) x h e)
+-- a state that has the mark: the first so far, or else itself, is the first, and its name
+pub record Met (q m : ℕ) (marks : List ℕ) (r : ℕ) : Type 0 where
+  pub first : IsFirst (q + 1) (has marks m) (Some r)
+  pub low : r ≤ q
+  pub named : r ≡ name (λ y z. eqb (at marks y) (at marks z)) q
 
--- a state's name is the first state of its mark
-pub first-name : (q x y : ℕ) (marks : List ℕ) → at marks q < 2 → IsLeast q (has marks 0) x → IsLeast q (has marks 1) y
-    → pick (eqb (at marks q) 0) x y ≡ name (λ y z. eqb (at marks y) (at marks z)) q
-unfolding pick name
-first-name q x y marks l h k =
-    by_test (eqb (at marks q) 0)
-    (λ t. rw t (named 0 x (eqb-true _ _ t) h))
-    (λ t. rw t (named 1 y (omega (arith, eqb-false (at marks q) 0 t)) k))
+pub met : (q m : ℕ) (marks : List ℕ) (r : Option ℕ) → at marks q ≡ m → IsFirst q (has marks m) r → Met q m marks (unwrap_or r q)
+unfolding name
+met q m marks r e h = record { first = first r h; low = omega (arith, (first r h).0); named = named }
   where
-    named : (m i : ℕ) → at marks q ≡ m → IsLeast q (has marks m) i → i ≡ least (suc q) (λ y. eqb (at marks y) (at marks q))
-    named m i e g = rw e (sym (least_unique (suc q) (has marks m) i (least_at q (has marks m) i g (eq-eqb _ _ e))))
+    first : (s : Option ℕ) → IsFirst q (has marks m) s → IsFirst (q + 1) (has marks m) (Some (unwrap_or s q))
+    first None f = (omega arith, eq-eqb _ _ e, f)
+    first (Some i) f = (omega (arith, f.0), f.1, f.2)
 
-pub nothing_least : (marks : List ℕ) (m : ℕ) → IsLeast 0 (has marks m) 0
-nothing_least marks m = record { within = omega arith; before = λ j l. absurd (not-suc-le-zero l); holds = λ l. absurd (not-suc-le-zero l) }
+    named : unwrap_or r q ≡ name (λ y z. eqb (at marks y) (at marks z)) q
+    named = rw (e, ← add-one q) (sym (first_least (unwrap_or r q) (first r h)))
 
-pub either_small : (plain : Bool) (q x y : ℕ) → x ≤ q → y ≤ q → pick plain x y ≤ q
-unfolding pick
-either_small true q x y k l = k
-either_small false q x y k l = l
+-- a state that has not
+pub passed : (q m : ℕ) (marks : List ℕ) (r : Option ℕ) → at marks q ≢ m → IsFirst q (has marks m) r → IsFirst (q + 1) (has marks m) r
+passed q m marks None u f = λ i l. elim (ℕ_discrete i q) [ yes e ↦ rw e (ne_eqb _ _ u) | no v ↦ f i (omega arith) ]
+passed q m marks (Some i) u f = (omega (arith, f.0), f.1, f.2)
 
--- of two marks, one is the other's opposite
-pub other_mark : (m : ℕ) → m < 2 → eqb m 1 ≡ not (eqb m 0)
-other_mark m l = elim (ℕ_discrete m 0) [
-  | yes z ↦ rw z refl
-  | no z ↦ let o : m ≡ 1 = omega arith in rw o refl
-]
+-- One state more: its name, and the first states of each mark.
+pub record Step (q : ℕ) (marks : List ℕ) (r : ℕ) (zero one : Option ℕ) : Type 0 where
+  pub low : r ≤ q
+  pub named : r ≡ name (λ y z. eqb (at marks y) (at marks z)) q
+  pub first_zero : IsFirst (q + 1) (has marks 0) zero
+  pub first_one : IsFirst (q + 1) (has marks 1) one
+
+module _ {q r first : ℕ} {marks : List ℕ} (z o : Option ℕ) {zero one : Option ℕ} (h : IsFirst q (has marks 0) z) (k : IsFirst q (has marks 1) o) (n : r ≡ first) where
+  pub step_zero : at marks q ≡ 0 → first ≡ unwrap_or z q → zero ≡ Some first → one ≡ o → Step q marks r zero one
+  step_zero e f a b =
+      let m : Met q 0 marks (unwrap_or z q) = met q 0 marks z e h in
+      record {
+        low = omega (arith, m.low);
+        named = n ∙ f ∙ m.named;
+        first_zero = subst (IsFirst (q + 1) (has marks 0)) (sym (a ∙ ap Some f)) m.first;
+        first_one = subst (IsFirst (q + 1) (has marks 1)) (sym b) (passed q 1 marks o (λ g. omega arith) k);
+      }
+
+  pub step_one : at marks q ≡ 1 → first ≡ unwrap_or o q → zero ≡ z → one ≡ Some first → Step q marks r zero one
+  step_one e f a b =
+      let m : Met q 1 marks (unwrap_or o q) = met q 1 marks o e k in
+      record {
+        low = omega (arith, m.low);
+        named = n ∙ f ∙ m.named;
+        first_zero = subst (IsFirst (q + 1) (has marks 0)) (sym a) (passed q 0 marks z (λ g. omega arith) h);
+        first_one = subst (IsFirst (q + 1) (has marks 1)) (sym (b ∙ ap Some f)) m.first;
+      }

@@ -12,25 +12,6 @@ use Rattle.automaton.specs.Machine.{Machine}
 use Rattle.layering.proofs.Emptying.{Zeroed}
 use Rattle.layering.specs.Work.{this, later, head, born, from, Named, Advanced, Rounded}
 
--- with the buckets empty, none is done
-pub round_begins : (M : Machine) (w : List ℕ) (round : ℕ) → ((b : ℕ) → b < M.size → head M.size w b ≡ 0) → Rounded M w w round 0 false
-round_begins M w round h = record {
-  long = refl;
-  same = λ x l. refl;
-  done = record {
-    right = λ s k. absurd (not-suc-le-zero k);
-    heads = λ b l z. absurd (z (h b l));
-    links = λ s g. absurd (not-suc-le-zero g.below);
-    greatest = λ s g. absurd (not-suc-le-zero g.below);
-    next = λ r s g. absurd (not-suc-le-zero g.below);
-  };
-  fresh = λ c k. absurd (not-suc-le-zero k);
-  stale = λ c l g. (refl, refl);
-  quiet = λ e x k. absurd (not-suc-le-zero k);
-  busy = λ e. absurd (true≢false (sym e));
-  beyond = λ i k. refl;
-}
-
 -- the round, seen from before its buckets were emptied
 pub round_from : (M : Machine) (w v u : List ℕ) (round : ℕ) (t : Bool) → Zeroed (5 * M.size) (6 * M.size) w v → Rounded M v u round M.size t → Rounded M w u round M.size t
 round_from M w v u round t m r = record {

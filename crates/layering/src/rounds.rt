@@ -70,10 +70,8 @@ fn seek_name(nexts: &NextStates<'_>, work: &[u16], q: usize) -> Seek
     let bucket = bucket_of(nexts, work, q);
     let mut r = number_at(work, 5 * n + bucket);
     while r != 0 {
-        if number_at(work, r) == own {
-            if same_nexts(nexts, work, q, r) {
-                return Seek::Found(r);
-            }
+        if number_at(work, r) == own && same_nexts(nexts, work, q, r) {
+            return Seek::Found(r);
         }
         r = number_at(work, 2 * n + r);
     }

@@ -17,6 +17,7 @@ const PLAN: [u8; 256] = [
 ];
 
 // Sign plan 1, for whoever looks signs up in it.
+#[tactic(auto, unfolding(crate::specs::Plan::plan1))]
 pub fn sign_plan() -> [u8; 256]
     ensures { result ≡ plan1 }
 {

@@ -43,6 +43,7 @@ fn walk_line(nexts: &NextStates<'_>, plan: &[u8; 256], line: &[u8]) -> usize
 
 // Runs a word, one sign a byte, from the start: the mark of the last state. Refuses 1 to 8 for the file, 10 at the index of the first
 // sign that is k or more.
+#[tactic(auto, using(crate::proofs::Answering::word_refused, crate::proofs::Answering::lent_strange, crate::proofs::Answering::lent_inside, crate::proofs::Answering::lent_stands))]
 pub fn run_word(file: &[u8], word: &[u8]) -> Result<usize, Refusal>
     ensures { told result ≡ ran_word file.now word.now }
 {
@@ -57,6 +58,7 @@ pub fn run_word(file: &[u8], word: &[u8]) -> Result<usize, Refusal>
 }
 
 // Runs a line by the sign plan: the mark of the last state. Refuses 1 to 8 for the file, 9 at 0 where k isn't 47.
+#[tactic(auto, using(crate::proofs::Signs::plan_1, crate::proofs::Answering::line_refused, crate::proofs::Answering::lent_narrow, crate::proofs::Answering::lent_line))]
 pub fn run_line(file: &[u8], line: &[u8]) -> Result<usize, Refusal>
     ensures { told result ≡ ran_line file.now line.now }
 {

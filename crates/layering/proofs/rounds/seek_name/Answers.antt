@@ -10,7 +10,7 @@ use Rattle.table.specs.declared.tables.NextStates.{NextStates}
 use Rattle.layering.specs.Work.{this, head, bucket, same_nexts}
 use Rattle.layering.proofs.Buckets.{lent_lawful, Passed, bucket_below, own_found, this_found, passed_start, passed_found, passed_other, passed_unlike, link_falls, passed_last}
 use Rattle.layering.proofs.rounds.seek_name.Goals as goal
-use Rattle.layering.proofs.rounds.seek_name.Goals.{then-number_at-own+else-same_nexts-2, else-number_at-own}
+use Rattle.layering.proofs.rounds.seek_name.Goals.{else-number_at-own-via-then-number_at-own+else-same_nexts-2, else-number_at-own-via-else-number_at-own}
 
 -- the bucket is below n
 small : (t : NextStates) (work : List ℕ) (q b : ℕ) → b ≡ bucket (unmarked t) work q → b < t.sizes.states
@@ -60,11 +60,11 @@ loop-r-preserved c =
     let M = unmarked c.args.nexts.now in
     let l = c.loop-r in
     let s = c.number_at-r-in-loop-r in
-    elim c.if-number_at-own.branch [
-      | then-number_at-own+else-same_nexts-2 w ↦
+    elim c.else-number_at-own.branch [
+      | else-number_at-own-via-then-number_at-own+else-same_nexts-2 w ↦
           passed_unlike M (lent_lawful c.args.nexts.now) c.args.work.now c.args.q c.requires.state c.requires.named c.requires.done l.r s.result l.invariant c.loop-r-test.true
           (sym w.same_nexts-then-number_at-own.ensures ∙ w.if-same_nexts-2.false) s.ensures.value
-      | else-number_at-own w ↦
+      | else-number_at-own-via-else-number_at-own w ↦
           passed_other M (lent_lawful c.args.nexts.now) c.args.work.now c.args.q c.requires.state c.requires.named c.requires.done l.r s.result l.invariant c.loop-r-test.true
           (λ e. w.if-number_at-own.false (c.number_at.ensures.value ∙ e ∙ sym c.number_at-own.ensures.value)) s.ensures.value
     ]
