@@ -6,7 +6,6 @@ pub mod Divisions
 pub mod Dueness
 pub mod Quietness
 pub mod Balances
-pub mod Adopting
 pub mod Anew
 pub mod Parting
 pub mod Sharing

@@ -1,5 +1,4 @@
 -- What the loop of `splitting::parts::adopt` keeps: the first x names are taken over, and the rest is as it was.
-use Prim.Native.Nat.{◌≤◌}
 use Rattle.splitting.specs.Parts.{Adopted}
 use Rattle.splitting.proofs.parts.adopt.Given as goal
 
