@@ -1,39 +1,21 @@
--- The pending list of a fresh start: written state by state, and the mark that is due.
-use mathlib.Core.Path.{◌≡◌, refl, sym, subst, ◌∙◌}
+-- The pending list of a fresh start: the first state that has the mark due, and the marks that occur.
+use mathlib.Core.Path.{◌≡◌, refl}
 use mathlib.Core.Bool.{Bool, true, false, not, ◌&&◌, and-false}
 use mathlib.Core.List.{List}
 use Prim.Native.Nat.{ℕ, zero, suc, ◌+◌, ◌≤◌, ◌<◌}
-use native.Mathlib.Nat.{not-suc-le-zero}
 use native.Mathlib.Decide.{ℕ_discrete}
 use native.Mathlib.Omega.{arith}
 use borrow.Author.Tests.{ne_eqb}
 use lib.Dec.{eqb}
-use lib.ListN.{length, set, length-set}
-use lib.Seq.{get_or-set_same, get_or-set_other}
 use Rattle.counting.specs.Lists.{at}
 use Rattle.counting.specs.Least.{pick}
 use Rattle.counting.specs.Counts.{any, count}
-use Rattle.splitting.specs.Filling.{Filled}
 
 -- whether a state is the first that has the mark due
 abbrev pub is_first : ℕ → List ℕ → ℕ → Bool
 is_first due marks q = eqb (at marks q) due && not (any q (λ y. eqb (at marks y) due))
 
-module _ (k due : ℕ) (marks before : List ℕ) where
-  pub filled_none : Filled k due 0 marks before before
-  filled_none = record { long = refl; pendings = λ q l. absurd (not-suc-le-zero l); beyond = λ i l. refl }
-
-  pub filled_more : (x v : ℕ) (after : List ℕ) → x < length after → v ≡ pick (is_first due marks x) k 0 → Filled k due x marks before after → Filled k due (x + 1) marks before (set after x v)
-  filled_more x v after room e d = record {
-    long = length-set after x v ∙ d.long;
-    pendings = λ q l. elim (ℕ_discrete q x) [
-      | yes f ↦ subst (λ (y : ℕ). at (set after x v) y ≡ pick (is_first due marks y) k 0) (sym f) (get_or-set_same after x v 0 room ∙ e)
-      | no u ↦ get_or-set_other after x q v 0 u ∙ d.pendings q (omega arith)
-    ];
-    beyond = λ i l. get_or-set_other after x i v 0 (omega arith) ∙ d.beyond i (omega arith);
-  }
-
-pub waiting_small : (t : Bool) (k : ℕ) → pick t k 0 ≤ k
+waiting_small : (t : Bool) (k : ℕ) → pick t k 0 ≤ k
 unfolding pick
 waiting_small true k = omega arith
 waiting_small false k = omega arith

@@ -107,7 +107,7 @@ pub fn run_takes(nexts: &NextStates<'_>, budget: usize, work: &mut [u16]) -> Tal
 fn allowed_takes(budget: usize) -> usize
     ensures { result ≡ allowed budget }
 {
-    if 65535 < budget { 65535 } else { budget }
+    budget.min(65535)
 }
 
 // A run of takes. Refuses 1 to 8 for the file, 11 at 16 × n, 12 at n, 13 at the least state where a list isn't well formed.

@@ -43,6 +43,7 @@ fn due_mark(accepting: usize, n: usize) -> usize
 }
 
 // Writes the pending of each state: all signs for the first state with the mark due, else none.
+#[tactic(auto, unfolding(counting::specs::Counts::any, counting::specs::Least::pick))]
 fn fill_pending(marks: &Marks<'_>, pending: &mut [u16], signs: usize, due: usize)
     requires room { length marks.now.bytes.now ≤ length pending.old }
     requires small { signs ≤ 64 }
