@@ -78,6 +78,7 @@ fn share_class(work: &mut [u16], n: usize, signs: usize, p: usize)
 }
 
 // Shares the pending and the sizes of all classes that are split.
+#[tactic(auto, unfolding(counting::specs::Least::pick, crate::specs::Parts::kept_pending, crate::specs::Parts::new_pending))]
 pub fn share(work: &mut [u16], n: usize, signs: usize)
     requires room { (8 * n ≤ length work.old) × (n ≤ 1024) × (signs ≤ 64) }
     requires within { (p : ℕ) → p < n → (first_of n work.old p < n) × (gone_of n work.old p ≤ at work.old p) }
