@@ -1,12 +1,12 @@
 -- The pending list of a fresh start: the first state that has the mark due, and the marks that occur.
 use mathlib.Core.Path.{◌≡◌, refl}
-use mathlib.Core.Bool.{Bool, true, false, not, ◌&&◌, and-false}
+use mathlib.Core.Bool.{Bool, true, false, not, ◌&&◌}
 use mathlib.Core.List.{List}
 use Prim.Native.Nat.{ℕ, zero, suc, ◌+◌, ◌≤◌, ◌<◌}
 use native.Mathlib.Decide.{ℕ_discrete}
 use native.Mathlib.Omega.{arith}
-use borrow.Author.Tests.{ne_eqb}
 use lib.Dec.{eqb}
+use Rattle.std.specs.Prelude.{Some, None}
 use Rattle.counting.specs.Lists.{at}
 use Rattle.counting.specs.Least.{pick}
 use Rattle.counting.specs.Counts.{any, count}
@@ -31,11 +31,16 @@ marks_both (suc n) f h = elim (ℕ_discrete (f n) 0) [
       rw e (omega (arith, marks_both n f (λ q l. h q (omega arith))))
 ]
 
--- a mark that no state has is due where not both marks occur
-pub due_nowhere : (named both : Bool) (m due k : ℕ) → m < 2 → pick (named && eqb m (pick both due 2)) k 0 ≡ pick (both && named && eqb m due) k 0
+-- what waits by the mark due is what waits by the rule, where both marks occur; and nothing waits by the rule where not
+pub some_due : (both named : Bool) (m d due k : ℕ) → Some due ≡ pick both (Some d) None → pick (named && eqb m due) k 0 ≡ pick (both && named && eqb m d) k 0
 unfolding pick
-due_nowhere named true m due k l = refl
-due_nowhere named false m due k l = rw (ne_eqb m 2 (omega arith), and-false) refl
+some_due true named m d due k e = let f : due ≡ d = cc in rw f refl
+some_due false named m d due k e = cc
+
+pub none_due : (both named : Bool) (m d k : ℕ) → None ≡ pick both (Some d) None → 0 ≡ pick (both && named && eqb m d) k 0
+unfolding pick
+none_due true named m d k e = cc
+none_due false named m d k e = refl
 
 pub none_waits : (t : Bool) (k : ℕ) → k ≡ 0 → pick t k 0 ≡ 0
 none_waits t k e = omega (arith, e, waiting_small t k)
