@@ -122,8 +122,7 @@ pub fn run(
     ensures { left (told_run result) (class.new ∷ pending.new ∷ work.new ∷ []) ≡ run_leaves file.now budget class.old pending.old work.old }
 {
     let table = table_in(file)?;
-    let sizes = table.nexts.sizes;
-    let n = sizes.states;
+    let n = table.nexts.sizes.states;
     let room = 16 * n;
     if work.len() < room {
         return Err(Refusal {
@@ -138,7 +137,7 @@ pub fn run(
             place: n,
         });
     }
-    if let Some(ill) = ill_formed(class, pending, n, sizes.signs) {
+    if let Some(ill) = ill_formed(class, pending, n, table.nexts.sizes.signs) {
         return Err(Refusal {
             kind: Kind::Lists,
             place: ill,
