@@ -22,8 +22,11 @@ use Rattle.refining.specs.Take.{taken_class, taken_sign, take as take_of, entrie
 use Rattle.refining.proofs.Points as points
 use Rattle.splitting.specs.Work.{pending_of, class_in, pending_in, lists_in, leads_to, goes_by, goer, first_goer, Classed}
 use Rattle.splitting.proofs.Places.{part_at, part_long}
-use Rattle.splitting.proofs.Forming.{classed_formed}
 use Rattle.splitting.proofs.Divisions.{first_is, new_name, gone_none, gone_some}
+
+-- well_formed lists are classed
+classed_formed : (n k : ℕ) (s : Split) → n ≤ length s.class → WellFormed n k s → Classed n s.class
+classed_formed n k s room w = record { room = room; low = w.low; named = w.named }
 
 -- Class q with sign a is the pair that is due.
 pub record Due (M : Machine) (class pending : List ℕ) (q a : ℕ) : Type 0 where

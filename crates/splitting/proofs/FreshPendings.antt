@@ -1,8 +1,8 @@
 -- The pending list of the fresh lists of marks: all signs for the first state that has the mark due. Rests on the paper's rule for marks.
-use mathlib.Core.Path.{◌≡◌, refl, sym, ap, ap₂, ◌∙◌}
+use mathlib.Core.Path.{◌≡◌, refl, sym, ap₂, ◌∙◌}
 use mathlib.Core.Bool.{Bool, true≢false, true, false, not, ◌&&◌, and-true, and-false}
 use mathlib.Core.List.{List}
-use Prim.Native.Nat.{ℕ, suc, ◌-◌, ◌<◌}
+use Prim.Native.Nat.{ℕ, suc, ◌-◌, ◌≤◌, ◌<◌}
 use native.Mathlib.Decide.{ℕ_discrete}
 use native.Mathlib.Omega.{arith}
 use borrow.Author.Tests.{eq-eqb, ne_eqb}
@@ -22,7 +22,14 @@ use Rattle.refining.specs.Fresh.{class_sizes, before, spared_of, pending_of, fre
 use Rattle.refining.proofs.Freshness.{fresh_marked}
 use Rattle.table.specs.Encoding.{machine_in}
 use Rattle.splitting.specs.Filling.{Filled, FreshFilled}
-use Rattle.splitting.proofs.Pendings.{is_first, marks_both, due_nowhere, none_waits}
+use Rattle.std.specs.Prelude.{Option, Some, None, length}
+use Rattle.lending.specs.Memory.{cleared}
+use Rattle.lending.proofs.Memories.{cleared_at, cleared_beyond, cleared-length}
+use Rattle.splitting.proofs.Pendings.{is_first, marks_both, some_due, none_due, none_waits}
+
+-- the mark due, of so many accepting states
+abbrev due_of : ℕ → ℕ → Option ℕ
+due_of accepting n = pick (not (eqb accepting 0) && not (eqb (n - accepting) 0)) (Some (pick (leb accepting (n - accepting)) 1 0)) None
 
 module _ (n k start : ℕ) (marks nexts : List ℕ) where
   abbrev machine : Machine
@@ -72,8 +79,7 @@ module _ (n k start : ℕ) (marks nexts : List ℕ) where
       | no u ↦ fresh_marked still (record { some_state = omega arith; some_sign = omega arith; start-in = omega arith; next_in = λ x a i j. omega arith }) (λ x i. omega (arith, small x i)) q l
     ]
 
-    module _ (accepting due : ℕ) (counts : accepting ≡ count n (λ x. eqb (at marks x) 1))
-        (is : due ≡ pick (not (eqb accepting 0) && not (eqb (n - accepting) 0)) (pick (leb accepting (n - accepting)) 1 0) 2) where
+    module _ (accepting : ℕ) (counts : accepting ≡ count n (λ x. eqb (at marks x) 1)) where
       other : ℕ
       other = count n (λ x. eqb (at marks x) 0)
 
@@ -81,23 +87,33 @@ module _ (n k start : ℕ) (marks nexts : List ℕ) where
       unfolding other
       others = omega (arith, counts, marks_both n (at marks) small)
 
-      -- the pending of a state by the mark due, by both counts
+      -- the pending of a state, by both counts
       rule : ℕ → ℕ → ℕ → ℕ
       rule q a o = pick ((not (eqb a 0) && not (eqb o 0)) && eqb (at (layer machine 0) q) q && eqb (at marks q) (pick (leb a o) 1 0)) k 0
 
-      pub due_fresh : (q : ℕ) → q < n → pick (is_first due marks q) k 0 ≡ at (fresh machine).pending q
+      by_counts : (q : ℕ) → q < n → rule q accepting (n - accepting) ≡ at (fresh machine).pending q
       unfolding marked_pending other rule
-      due_fresh q l =
-          first_due q due l
-          ∙ ap (λ (m : ℕ). pick (eqb (at (layer machine 0) q) q && eqb (at marks q) m) k 0) is
-          ∙ due_nowhere (eqb (at (layer machine 0) q) q) (not (eqb accepting 0) && not (eqb (n - accepting) 0)) (at marks q) (pick (leb accepting (n - accepting)) 1 0) k (small q l)
-          ∙ ap₂ (rule q) counts others
-          ∙ sym (by_rule q l)
+      by_counts q l = ap₂ (rule q) counts others ∙ sym (by_rule q l)
 
-pub filled_fresh : (n k accepting due : ℕ) (marks before after : List ℕ) → ((q : ℕ) → q < n → at marks q < 2) → accepting ≡ count n (λ x. eqb (at marks x) 1)
-    → due ≡ pick (not (eqb accepting 0) && not (eqb (n - accepting) 0)) (pick (leb accepting (n - accepting)) 1 0) 2 → Filled k due n marks before after → FreshFilled n k marks before after
-filled_fresh n k accepting due marks before after small counts is filled = record {
-  long = filled.long;
-  pendings = λ start nexts q l. filled.pendings q l ∙ due_fresh n k start marks nexts small accepting due counts is q l;
-  beyond = filled.beyond;
-}
+      due_fresh : (due q : ℕ) → q < n → Some due ≡ due_of accepting n → pick (is_first due marks q) k 0 ≡ at (fresh machine).pending q
+      unfolding rule
+      due_fresh due q l is = first_due q due l ∙ some_due _ _ _ _ _ k is ∙ by_counts q l
+
+      none_fresh : (q : ℕ) → q < n → None ≡ due_of accepting n → 0 ≡ at (fresh machine).pending q
+      unfolding rule
+      none_fresh q l is = none_due _ (eqb (at (layer machine 0) q) q) (at marks q) _ k is ∙ by_counts q l
+
+module _ (n k accepting : ℕ) (marks before after : List ℕ) (small : (q : ℕ) → q < n → at marks q < 2) (counts : accepting ≡ count n (λ x. eqb (at marks x) 1)) where
+  pub filled_fresh : (due : ℕ) → Some due ≡ due_of accepting n → Filled k due n marks before after → FreshFilled n k marks before after
+  filled_fresh due is filled = record {
+    long = filled.long;
+    pendings = λ start nexts q l. filled.pendings q l ∙ due_fresh n k start marks nexts small accepting counts due q l is;
+    beyond = filled.beyond;
+  }
+
+  pub cleared_fresh : None ≡ due_of accepting n → n ≤ length before → after ≡ cleared n before → FreshFilled n k marks before after
+  cleared_fresh is room e = rw e record {
+    long = cleared-length n before room;
+    pendings = λ start nexts q l. cleared_at n before q l ∙ none_fresh n k start marks nexts small accepting counts q l is;
+    beyond = λ i l. cleared_beyond n before i l;
+  }

@@ -6,14 +6,10 @@ pub mod Divisions
 pub mod Dueness
 pub mod Quietness
 pub mod Balances
-pub mod Adopting
-pub mod Anew
-pub mod Parting
 pub mod Sharing
 pub mod Goers
 pub mod Renaming
 pub mod Copying
-pub mod Forming
 pub mod Sizing
 pub mod Progress
 pub mod RunWays

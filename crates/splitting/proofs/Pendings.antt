@@ -1,39 +1,21 @@
--- The pending list of a fresh start: written state by state, and the mark that is due.
-use mathlib.Core.Path.{◌≡◌, refl, sym, subst, ◌∙◌}
-use mathlib.Core.Bool.{Bool, true, false, not, ◌&&◌, and-false}
+-- The pending list of a fresh start: the first state that has the mark due, and the marks that occur.
+use mathlib.Core.Path.{◌≡◌, refl}
+use mathlib.Core.Bool.{Bool, true, false, not, ◌&&◌}
 use mathlib.Core.List.{List}
 use Prim.Native.Nat.{ℕ, zero, suc, ◌+◌, ◌≤◌, ◌<◌}
-use native.Mathlib.Nat.{not-suc-le-zero}
 use native.Mathlib.Decide.{ℕ_discrete}
 use native.Mathlib.Omega.{arith}
-use borrow.Author.Tests.{ne_eqb}
 use lib.Dec.{eqb}
-use lib.ListN.{length, set, length-set}
-use lib.Seq.{get_or-set_same, get_or-set_other}
+use Rattle.std.specs.Prelude.{Some, None}
 use Rattle.counting.specs.Lists.{at}
 use Rattle.counting.specs.Least.{pick}
 use Rattle.counting.specs.Counts.{any, count}
-use Rattle.splitting.specs.Filling.{Filled}
 
 -- whether a state is the first that has the mark due
 abbrev pub is_first : ℕ → List ℕ → ℕ → Bool
 is_first due marks q = eqb (at marks q) due && not (any q (λ y. eqb (at marks y) due))
 
-module _ (k due : ℕ) (marks before : List ℕ) where
-  pub filled_none : Filled k due 0 marks before before
-  filled_none = record { long = refl; pendings = λ q l. absurd (not-suc-le-zero l); beyond = λ i l. refl }
-
-  pub filled_more : (x v : ℕ) (after : List ℕ) → x < length after → v ≡ pick (is_first due marks x) k 0 → Filled k due x marks before after → Filled k due (x + 1) marks before (set after x v)
-  filled_more x v after room e d = record {
-    long = length-set after x v ∙ d.long;
-    pendings = λ q l. elim (ℕ_discrete q x) [
-      | yes f ↦ subst (λ (y : ℕ). at (set after x v) y ≡ pick (is_first due marks y) k 0) (sym f) (get_or-set_same after x v 0 room ∙ e)
-      | no u ↦ get_or-set_other after x q v 0 u ∙ d.pendings q (omega arith)
-    ];
-    beyond = λ i l. get_or-set_other after x i v 0 (omega arith) ∙ d.beyond i (omega arith);
-  }
-
-pub waiting_small : (t : Bool) (k : ℕ) → pick t k 0 ≤ k
+waiting_small : (t : Bool) (k : ℕ) → pick t k 0 ≤ k
 unfolding pick
 waiting_small true k = omega arith
 waiting_small false k = omega arith
@@ -49,11 +31,16 @@ marks_both (suc n) f h = elim (ℕ_discrete (f n) 0) [
       rw e (omega (arith, marks_both n f (λ q l. h q (omega arith))))
 ]
 
--- a mark that no state has is due where not both marks occur
-pub due_nowhere : (named both : Bool) (m due k : ℕ) → m < 2 → pick (named && eqb m (pick both due 2)) k 0 ≡ pick (both && named && eqb m due) k 0
+-- what waits by the mark due is what waits by the rule, where both marks occur; and nothing waits by the rule where not
+pub some_due : (both named : Bool) (m d due k : ℕ) → Some due ≡ pick both (Some d) None → pick (named && eqb m due) k 0 ≡ pick (both && named && eqb m d) k 0
 unfolding pick
-due_nowhere named true m due k l = refl
-due_nowhere named false m due k l = rw (ne_eqb m 2 (omega arith), and-false) refl
+some_due true named m d due k e = let f : due ≡ d = cc in rw f refl
+some_due false named m d due k e = cc
+
+pub none_due : (both named : Bool) (m d k : ℕ) → None ≡ pick both (Some d) None → 0 ≡ pick (both && named && eqb m d) k 0
+unfolding pick
+none_due true named m d k e = cc
+none_due false named m d k e = refl
 
 pub none_waits : (t : Bool) (k : ℕ) → k ≡ 0 → pick t k 0 ≡ 0
 none_waits t k e = omega (arith, e, waiting_small t k)

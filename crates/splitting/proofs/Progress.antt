@@ -92,10 +92,6 @@ module _ (M : Machine) (work₀ : List ℕ) where
     abbrev s : Split
     s = lists_in M.size work
 
-    -- the budget is used
-    pub ran_all : (budget : ℕ) → takes ≡ budget → RanIn M budget work₀ work takes looked
-    ran_all budget e = subst (λ (b : ℕ). RanIn M b work₀ work takes looked) e (record { long = d.long; lists = d.reached; counts = (d.takes_made, d.looks); beyond = d.beyond })
-
     abbrev test : ℕ → Bool
     test q = not (eqb (pending_of n work q) 0)
 

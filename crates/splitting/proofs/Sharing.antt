@@ -1,10 +1,9 @@
--- The classes shared one by one: none yet, and one more.
+-- The classes shared one by one: one more.
 use mathlib.Core.Path.{◌≡◌, refl, sym, ap, subst, ◌∙◌}
 use mathlib.Core.Logic.{◌≢◌}
 use mathlib.Core.Bool.{true}
 use mathlib.Core.List.{List}
 use Prim.Native.Nat.{ℕ, ◌+◌, ◌*◌, ◌≤◌, ◌<◌}
-use native.Mathlib.Nat.{not-suc-le-zero}
 use native.Mathlib.Decide.{ℕ_discrete, dec_lt}
 use native.Mathlib.Omega.{arith}
 use borrow.Author.Tests.{eq-eqb, ne_eqb, lt-ltb, le-ltb}
@@ -13,19 +12,6 @@ use Rattle.counting.specs.Lists.{at}
 use Rattle.counting.specs.Least.{pick}
 use Rattle.splitting.specs.Work.{first_of, gone_of, pending_of}
 use Rattle.splitting.specs.Parts.{kept_of, kept_pending, new_pending, Parted, Shared}
-
-pub shared_none : (n k : ℕ) (work : List ℕ) → Shared n k 0 work work
-unfolding pick
-shared_none n k work = record {
-  long = refl;
-  kept = λ p l. absurd (not-suc-le-zero l);
-  new = λ p l. absurd (not-suc-le-zero l);
-  others = λ y l _ _. (refl, refl);
-  firsts = λ p l. rw (le-ltb p 0 (omega arith)) refl;
-  gones = λ p l. rw (le-ltb p 0 (omega arith)) refl;
-  between = λ i l h. refl;
-  beyond = λ i l. refl;
-}
 
 -- the new name of a split class is greater, is not split itself, and belongs to one class only
 pub record Fit (n : ℕ) (work : List ℕ) : Type 0 where
@@ -41,7 +27,7 @@ less_last q p e = lt-ltb q (p + 1) (omega arith)
 
 module _ (n k p : ℕ) (work₀ work : List ℕ) (l : p < n) (s : Shared n k p work₀ work) where
   -- a class ahead has its numbers yet
-  pub first_ahead : first_of n work p ≡ first_of n work₀ p
+  first_ahead : first_of n work p ≡ first_of n work₀ p
   unfolding pick
   first_ahead = s.firsts p l ∙ rw (le-ltb p p (omega arith)) refl
 

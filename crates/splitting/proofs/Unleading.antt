@@ -5,16 +5,13 @@ use mathlib.Core.Bool.{Bool, true, false, not, ◌&&◌, ◌||◌, true≢false}
 use mathlib.Core.List.{List}
 use Prim.Native.Nat.{ℕ, ◌+◌, ◌*◌, ◌≤◌, ◌<◌}
 use native.Mathlib.Decide.{ℕ_discrete}
-use native.Mathlib.Nat.{not-suc-le-zero}
 use native.Mathlib.Omega.{arith}
 use borrow.Author.Tests.{eq-eqb, ne_eqb}
 use lib.Dec.{eqb}
 use lib.ListN.{length, set, length-set}
 use lib.Seq.{get_or-set_same, get_or-set_other}
 use Rattle.counting.specs.Lists.{at}
-use Rattle.counting.proofs.Cases.{by_test}
-use Rattle.counting.proofs.Tallies.{any_iff}
-use Rattle.splitting.specs.Work.{led_of, size_of, touched_of, some_split, Unled}
+use Rattle.splitting.specs.Work.{led_of, size_of, touched_of}
 
 -- of this class some states lead into the class taken, and others don't
 abbrev pub cut_in : ℕ → List ℕ → ℕ → Bool
@@ -37,17 +34,6 @@ pub record Unleading (n j : ℕ) (before after : List ℕ) (split : Bool) : Type
   pub beyond : (i : ℕ) → 5 * n ≤ i → at after i ≡ at before i
 
 module _ (n : ℕ) (before : List ℕ) where
-  pub unleading_none : Unleading n 0 before before false
-  unleading_none = record {
-    long = refl;
-    kept = λ c l u. refl;
-    cleared = λ i l. absurd (not-suc-le-zero l);
-    sound = λ e. absurd (true≢false (sym e));
-    seen = λ c l e z. absurd (true≢false (sym e ∙ cut_none n before c z));
-    below = λ i l. refl;
-    beyond = λ i l. refl;
-  }
-
   module _ (j c : ℕ) (after : List ℕ) (split cut : Bool) (room : 6 * n ≤ length before) (l : c < n) (own : c ≡ touched_of n after j) (is : cut ≡ cut_in n after c) (d : Unleading n j before after split) where
     abbrev next : List ℕ
     next = set after (4 * n + c) 0
@@ -113,25 +99,3 @@ module _ (n : ℕ) (before : List ℕ) where
           ]
           | no u ↦ either_left split cut (d.seen k h e (sym (other (4 * n + k) (omega arith)) ∙ z))
         ]
-
-  pub unled_all : (j : ℕ) (after : List ℕ) (split : Bool)
-      → ((c : ℕ) → c < n → led_of n before c ≢ 0 → (i : ℕ) × (i < j) × (touched_of n before i ≡ c))
-      → Unleading n j before after split
-      → Unled n before after split
-  unfolding some_split
-  unled_all j after split touched d = record { long = d.long; found = found; leds = leds; below = d.below; beyond = d.beyond }
-    where
-      leds : (c : ℕ) → c < n → led_of n after c ≡ 0
-      leds c l = elim (ℕ_discrete (led_of n after c) 0) [
-        | yes e ↦ e
-        | no u ↦
-            (let (i, k, f) = touched c l (λ z. u (d.kept c l u ∙ z)) in
-            ap (led_of n after) (sym f) ∙ d.cleared i k)
-      ]
-
-      found : split ≡ some_split n before
-      found = by_test split
-          (λ e. e ∙ sym ((any_iff n (cut_in n before)).1 (d.sound e)))
-          (λ e. by_test (some_split n before)
-          (λ f. let (c, l, g) = (any_iff n (cut_in n before)).0 f in absurd (true≢false (sym (d.seen c l g (leds c l)) ∙ e)))
-          (λ f. e ∙ sym f))

@@ -57,6 +57,7 @@ pub fn count_hits(nexts: &NextStates<'_>, work: &mut [u16], q: usize, a: usize) 
 }
 
 // Sets the counts of the touched classes to 0 again; gives whether some class has states that lead into the class taken, and others.
+#[tactic(auto, using(counting::proofs::Tallies::any_iff), unfolding(crate::specs::Work::some_split))]
 pub fn settle_hits(work: &mut [u16], n: usize, entries: usize) -> bool
     requires room { (6 * n ≤ length work.old) × (entries ≤ n) × (n ≤ 1024) }
     requires within { (j : ℕ) → j < entries → touched_of n work.old j < n }

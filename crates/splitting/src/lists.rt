@@ -7,6 +7,7 @@ ghost use Rattle.splitting.specs.Work.{lists};
 use lending::number_at;
 
 // The four rules at one state.
+#[tactic(auto, unfolding(refining::specs::Lists::formed))]
 fn is_formed(class: &[u16], pending: &[u16], n: usize, signs: usize, q: usize) -> bool
     requires room { (n ≤ length class.now) × (n ≤ length pending.now) }
     requires state { q < n }

@@ -10,6 +10,7 @@ use lending::{number_at, one_of};
 use table::tables::NextStates;
 
 // Names a state of class c anew: where it goes, by the first of its class that goes.
+#[tactic(auto, unfolding(counting::specs::Least::pick))]
 fn name_anew(work: &mut [u16], n: usize, c: usize, x: usize, goes: bool)
     requires room { (6 * n ≤ length work.old) × (n ≤ 1024) }
     requires within { (c < n) × (x < n) }
@@ -49,6 +50,7 @@ pub fn rename(nexts: &NextStates<'_>, work: &mut [u16], q: usize, a: usize)
 }
 
 // Shares the pending and the size of a class among its two parts, where it is split.
+#[tactic(auto, unfolding(counting::specs::Least::pick, crate::specs::Parts::kept_pending, crate::specs::Parts::new_pending))]
 fn share_class(work: &mut [u16], n: usize, signs: usize, p: usize)
     requires room { (8 * n ≤ length work.old) × (n ≤ 1024) × (signs ≤ 64) }
     requires within { (p < n) × (first_of n work.old p < n) }
@@ -76,6 +78,7 @@ fn share_class(work: &mut [u16], n: usize, signs: usize, p: usize)
 }
 
 // Shares the pending and the sizes of all classes that are split.
+#[tactic(auto, unfolding(counting::specs::Least::pick, crate::specs::Parts::kept_pending, crate::specs::Parts::new_pending))]
 pub fn share(work: &mut [u16], n: usize, signs: usize)
     requires room { (8 * n ≤ length work.old) × (n ≤ 1024) × (signs ≤ 64) }
     requires within { (p : ℕ) → p < n → (first_of n work.old p < n) × (gone_of n work.old p ≤ at work.old p) }
@@ -93,9 +96,6 @@ pub fn adopt(work: &mut [u16], n: usize)
     requires { (8 * n ≤ length work.old) × (n ≤ 1024) }
     ensures { Adopted n n work.old work.new }
 {
-    for x in 0..n {
-        let name = 3 * n + x;
-        let class = 6 * n + x;
-        work[class] = work[name];
-    }
+    let (front, classes) = work.split_at_mut(6 * n);
+    classes[..n].copy_from_slice(&front[3 * n..4 * n]);
 }

@@ -26,6 +26,7 @@ pub struct Tally {
 }
 
 // Counts the states of each class.
+#[tactic(auto, using(crate::proofs::Places::part_at, counting::proofs::Tallies::count_most), unfolding(counting::specs::Counts::count))]
 fn count_sizes(work: &mut [u16], n: usize)
     requires room { (8 * n ≤ length work.old) × (n ≤ 1024) }
     requires classed { Classed n (class_in n work.old) }
@@ -107,7 +108,7 @@ pub fn run_takes(nexts: &NextStates<'_>, budget: usize, work: &mut [u16]) -> Tal
 fn allowed_takes(budget: usize) -> usize
     ensures { result ≡ allowed budget }
 {
-    if 65535 < budget { 65535 } else { budget }
+    budget.min(65535)
 }
 
 // A run of takes. Refuses 1 to 8 for the file, 11 at 16 × n, 12 at n, 13 at the least state where a list isn't well formed.
@@ -121,8 +122,7 @@ pub fn run(
     ensures { left (told_run result) (class.new ∷ pending.new ∷ work.new ∷ []) ≡ run_leaves file.now budget class.old pending.old work.old }
 {
     let table = table_in(file)?;
-    let sizes = table.nexts.sizes;
-    let n = sizes.states;
+    let n = table.nexts.sizes.states;
     let room = 16 * n;
     if work.len() < room {
         return Err(Refusal {
@@ -137,7 +137,7 @@ pub fn run(
             place: n,
         });
     }
-    if let Some(ill) = ill_formed(class, pending, n, sizes.signs) {
+    if let Some(ill) = ill_formed(class, pending, n, table.nexts.sizes.signs) {
         return Err(Refusal {
             kind: Kind::Lists,
             place: ill,

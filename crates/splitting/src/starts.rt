@@ -1,5 +1,5 @@
 // The fresh start of a splitting.
-ghost use Rattle.std.specs.Prelude.{◌≡◌, not, ◌&&◌, [], ◌∷◌, ℕ, ◌-◌, ◌*◌, ◌≤◌, ◌<◌, eqb, leb, length};
+ghost use Rattle.std.specs.Prelude.{◌≡◌, not, ◌&&◌, [], ◌∷◌, ℕ, ◌-◌, ◌*◌, ◌≤◌, ◌<◌, Some, None, eqb, leb, length};
 ghost use Rattle.counting.specs.Lists.{at};
 ghost use Rattle.counting.specs.Least.{pick};
 ghost use Rattle.counting.specs.Counts.{count};
@@ -9,7 +9,7 @@ ghost use Rattle.splitting.specs.Starting.{StartedIn};
 ghost use Rattle.splitting.specs.StartCall.{told_start, start_leaves};
 
 use layering::first::mark_names;
-use lending::one_of;
+use lending::{clear, one_of};
 use table::answer::{Kind, Refusal};
 use table::fields::table_in;
 use table::tables::Marks;
@@ -26,31 +26,29 @@ fn count_accepting(marks: &Marks<'_>) -> usize
     accepting
 }
 
-// The mark of the class that waits: of two classes the accepting one where it isn't larger; 2, which no state has, where there is one class.
+// The mark of the class that waits: of two classes the accepting one where it isn't larger; none where there is one class.
 #[tactic(auto, unfolding(counting::specs::Least::pick))]
-fn due_mark(accepting: usize, n: usize) -> usize
+fn due_mark(accepting: usize, n: usize) -> Option<u8>
     requires { accepting ≤ n }
-    ensures { result ≡ pick (not (eqb accepting 0) && not (eqb (n - accepting) 0)) (pick (leb accepting (n - accepting)) 1 0) 2 }
+    ensures { result ≡ pick (not (eqb accepting 0) && not (eqb (n - accepting) 0)) (Some (pick (leb accepting (n - accepting)) 1 0)) None }
 {
     let other = n - accepting;
-    if accepting == 0 {
-        return 2;
+    if accepting == 0 || other == 0 {
+        return None;
     }
-    if other == 0 {
-        return 2;
-    }
-    if accepting <= other { 1 } else { 0 }
+    Some(u8::from(accepting <= other))
 }
 
 // Writes the pending of each state: all signs for the first state with the mark due, else none.
-fn fill_pending(marks: &Marks<'_>, pending: &mut [u16], signs: usize, due: usize)
+#[tactic(auto, unfolding(counting::specs::Counts::any, counting::specs::Least::pick))]
+fn fill_pending(marks: &Marks<'_>, pending: &mut [u16], signs: usize, due: u8)
     requires room { length marks.now.bytes.now ≤ length pending.old }
     requires small { signs ≤ 64 }
     ensures { Filled signs due (length marks.now.bytes.now) marks.now.bytes.now pending.old pending.new }
 {
     let mut seen = false;
     for q in 0..marks.bytes.len() {
-        let has = usize::from(marks.mark_of(q)) == due;
+        let has = marks.mark_of(q) == due;
         let waits = has && !seen;
         pending[q] = one_of(waits, signs, 0) as u16;
         seen |= has;
@@ -63,8 +61,11 @@ pub fn fill_fresh(marks: &Marks<'_>, pending: &mut [u16], signs: usize)
     requires room { length marks.now.bytes.now ≤ length pending.old }
     ensures { FreshFilled (length marks.now.bytes.now) signs marks.now.bytes.now pending.old pending.new }
 {
-    let due = due_mark(count_accepting(marks), marks.bytes.len());
-    fill_pending(marks, pending, signs, due);
+    let n = marks.bytes.len();
+    match due_mark(count_accepting(marks), n) {
+        Some(due) => fill_pending(marks, pending, signs, due),
+        None => clear(pending, n),
+    }
 }
 
 // The fresh lists. Refuses 1 to 8 for the file, 12 at n.

@@ -1,10 +1,10 @@
 -- `splitting::hits::settle_hits` meets its contract.
 use Prim.Native.Nat.{ℕ, ◌+◌, ◌*◌, ◌<◌}
-use mathlib.Core.Path.{◌≡◌, sym, ap, ap₂, subst, ◌∙◌}
+use mathlib.Core.Path.{◌≡◌, sym, ap, ap₂, ◌∙◌}
 use mathlib.Core.Bool.{not}
 use borrow.Author.Tests.{eq-eqb}
 use lib.Dec.{eqb}
-use Rattle.splitting.proofs.Unleading.{Unleading, cut_in, cut_none, cut_some, unleading_more, unled_all}
+use Rattle.splitting.proofs.Unleading.{cut_in, cut_none, cut_some, unleading_more}
 use native.Mathlib.Omega.{arith}
 use Rattle.splitting.proofs.hits.settle_hits.Goals as goal
 use Rattle.splitting.proofs.hits.settle_hits.Goals.{then-count-ne0, else-count-ne0}
@@ -23,10 +23,3 @@ loop-j-preserved c =
       | else-count-ne0 w ↦ w.cut-is ∙ ap not (eq-eqb _ 0 w.if-count-ne0.false) ∙ sym (cut_none n l.work k (sym e ∙ w.if-count-ne0.false))
     ] in
     unleading_more n a.work.now l.j k l.work l.split c.if-count-ne0.cut c.requires.room.0 within c.number_at-c.ensures.value cut_is l.invariant (omega (arith, t, c.requires.room.1))
-
-pub returns : goal.returns
-returns c =
-    let l = c.loop-j in
-    let a = c.args in
-    let e : l.j ≡ a.entries = omega arith in
-    unled_all a.n a.work.now a.entries l.work l.split c.requires.touched (subst (λ (j : ℕ). Unleading a.n j a.work.now l.work l.split) e l.invariant)

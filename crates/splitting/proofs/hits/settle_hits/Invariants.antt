@@ -1,5 +1,4 @@
 -- What the loop of `splitting::hits::settle_hits` keeps: the classes touched before place j are looked through.
-use Prim.Native.Nat.{◌≤◌}
 use Rattle.splitting.proofs.Unleading.{Unleading}
 use Rattle.splitting.proofs.hits.settle_hits.Given as goal
 

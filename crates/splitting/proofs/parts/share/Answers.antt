@@ -1,17 +1,6 @@
 -- `splitting::parts::share` meets its contract.
-use native.Mathlib.Omega.{arith}
-use Rattle.splitting.proofs.Sharing.{Fit, shared_none, first_ahead, part_ahead, shared_more}
+use Rattle.splitting.proofs.Sharing.{Fit, part_ahead, shared_more}
 use Rattle.splitting.proofs.parts.share.Goals as goal
-
-pub loop-p-init : goal.loop-p-init
-loop-p-init c = shared_none c.args.n c.args.signs c.args.work.now
-
-pub share_class-requires-clause-within : goal.share_class-requires-clause-within
-share_class-requires-clause-within c =
-    let a = c.args in
-    let l = c.loop-p in
-    let t = c.loop-p-test.true in
-    (t, omega (arith, first_ahead a.n a.signs l.p a.work.now l.work t l.invariant, (c.requires.within l.p t).0))
 
 pub share_class-requires-clause-part : goal.share_class-requires-clause-part
 share_class-requires-clause-part c =

@@ -1,5 +1,4 @@
 -- What the loop of `splitting::parts::share` keeps: the classes below p are shared.
-use Prim.Native.Nat.{◌≤◌}
 use Rattle.splitting.specs.Parts.{Shared}
 use Rattle.splitting.proofs.parts.share.Given as goal
 

@@ -1,50 +1,44 @@
 -- `splitting::runs::count_sizes` meets its contract.
-use Prim.Native.Nat.{ℕ, ◌+◌, ◌*◌, ◌<◌}
+use mathlib.Core.Path.{◌≡◌, sym, ap, ◌∙◌}
 use mathlib.Core.List.{List}
-use mathlib.Core.Path.{◌≡◌, sym, ◌∙◌}
+use Prim.Native.Nat.{ℕ, ◌+◌, ◌*◌, ◌<◌}
+use native.Mathlib.Decide.{ℕ_discrete}
 use native.Mathlib.Omega.{arith}
+use borrow.Author.Tests.{eq-eqb, ne_eqb}
+use lib.Dec.{eqb}
+use lib.ListN.{length, set}
+use lib.Seq.{get_or-set_same, get_or-set_other}
+use Rattle.std.proofs.Common.{rules}
+use Rattle.std.proofs.lemmas.Grind.{common_steps}
 use Rattle.counting.specs.Lists.{at}
-use Rattle.splitting.specs.Work.{class_in, Classed}
+use Rattle.counting.specs.Counts.{count}
+use Rattle.splitting.proofs.Columns.{count_hit, count_miss}
 use Rattle.splitting.proofs.Places.{part_at}
-use Rattle.splitting.proofs.Sizing.{Sizing, sizing_none, size_most, sizing_more}
 use Rattle.splitting.proofs.runs.count_sizes.Goals as goal
 
--- the class that is read was there at the start
-class_is : (n x r : ℕ) (before after : List ℕ) → x < n → Sizing n x (class_in n before) before after → r ≡ at after (6 * n + x) → r ≡ at (class_in n before) x
-class_is n x r before after t d e = e ∙ d.beyond (6 * n + x) (omega arith) ∙ sym (part_at n (6 * n) before x t)
-
--- it is a state
-within : (n x r : ℕ) (before after : List ℕ) → Classed n (class_in n before) → x < n → Sizing n x (class_in n before) before after → r ≡ at after (6 * n + x) → r < n
-within n x r before after k t d e = omega (arith, class_is n x r before after t d e, k.low x t)
-
-pub loop-x-init : goal.loop-x-init
-loop-x-init c = sizing_none c.args.n (class_in c.args.n c.args.work.now) c.args.work.now c.requires.none
-
-pub bounds-work-c : goal.bounds-work-c
-bounds-work-c c =
-    let l = c.loop-x in
-    omega (arith, within c.args.n l.x c.number_at-c.result c.args.work.now l.work c.requires.classed c.loop-x-test.true l.invariant c.number_at-c.ensures.value)
-
-pub overflow_add-work : goal.overflow_add-work
-overflow_add-work c =
-    let l = c.loop-x in
-    let n = c.args.n in
-    let work = c.args.work.now in
-    let d = l.invariant in
-    omega (arith, size_most n (class_in n work) work l.x l.work d c.number_at-c.result (within n l.x c.number_at-c.result work l.work c.requires.classed c.loop-x-test.true d c.number_at-c.ensures.value))
-
-pub bounds-work-c-in-loop-x : goal.bounds-work-c-in-loop-x
-bounds-work-c-in-loop-x c =
-    let l = c.loop-x in
-    omega (arith, within c.args.n l.x c.number_at-c.result c.args.work.now l.work c.requires.classed c.loop-x-test.true l.invariant c.number_at-c.ensures.value)
+-- one state of class r more counted
+size_more : (class work : List ℕ) (x r c : ℕ) → r ≡ at class x → r < length work → at work c ≡ count x (λ y. eqb (at class y) c)
+    → at (set work r (at work r + 1)) c ≡ count (x + 1) (λ y. eqb (at class y) c)
+size_more class work x r c own room e = elim (ℕ_discrete c r) [
+  | yes f ↦
+      ap (at (set work r (at work r + 1))) f
+      ∙ get_or-set_same work r (at work r + 1) 0 room
+      ∙ ap (λ (y : ℕ). at work y + 1) (sym f)
+      ∙ ap (λ (y : ℕ). y + 1) e
+      ∙ sym (count_hit x (λ y. eqb (at class y) c) (eq-eqb (at class x) c (sym own ∙ sym f)))
+  | no u ↦
+      get_or-set_other work r c (at work r + 1) 0 u
+      ∙ e
+      ∙ sym (count_miss x (λ y. eqb (at class y) c) (ne_eqb (at class x) c (λ f. u (sym f ∙ sym own))))
+]
 
 pub loop-x-preserved : goal.loop-x-preserved
 loop-x-preserved c =
     let l = c.loop-x in
     let n = c.args.n in
-    let work = c.args.work.now in
-    let d = l.invariant in
-    let r = c.number_at-c.result in
-    let t = c.loop-x-test.true in
-    let e = c.number_at-c.ensures.value in
-    sizing_more n (class_in n work) work l.x l.work d r (within n l.x r work l.work c.requires.classed t d e) (class_is n l.x r work l.work t d e) (omega (arith, c.requires.room))
+    let own = c.number_at-c.ensures.value ∙ l.invariant.beyond (6 * n + l.x) (omega arith) ∙ sym (part_at n (6 * n) c.args.work.now l.x c.loop-x-test.true) in
+    record {
+      long = search rules;
+      sizes = λ k m. size_more _ l.work l.x _ k own (omega (arith, own, c.requires.classed.low l.x c.loop-x-test.true, l.invariant.long, c.requires.room.0)) (l.invariant.sizes k m);
+      beyond = λ i m. grind (arith, common_steps, part_at);
+    }

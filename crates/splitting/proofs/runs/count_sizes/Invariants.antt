@@ -1,5 +1,4 @@
 -- What the loop of `splitting::runs::count_sizes` keeps: the first x states are counted.
-use Prim.Native.Nat.{◌≤◌}
 use Rattle.splitting.specs.Work.{class_in}
 use Rattle.splitting.proofs.Sizing.{Sizing}
 use Rattle.splitting.proofs.runs.count_sizes.Given as goal

@@ -4,7 +4,7 @@ use mathlib.Core.List.{[]}
 use native.Mathlib.Omega.{arith}
 use Rattle.table.specs.Tables.{unmarked}
 use Rattle.table.proofs.Handing.{held_lawful}
-use Rattle.splitting.proofs.Progress.{Progress, progress_none, progress_more, looked_more, ran_idle, ran_all}
+use Rattle.splitting.proofs.Progress.{Progress, progress_none, progress_more, looked_more, ran_idle}
 use Rattle.splitting.proofs.runs.make_takes.Goals as goal
 
 pub loop-takes-init : goal.loop-takes-init

@@ -1,5 +1,4 @@
 -- What the loop of `splitting::runs::make_takes` keeps: so far every take was made, and the work slice holds the lists of the run.
-use Prim.Native.Nat.{◌≤◌}
 use Rattle.table.specs.Tables.{unmarked}
 use Rattle.splitting.proofs.Progress.{Progress}
 use Rattle.splitting.proofs.runs.make_takes.Given as goal

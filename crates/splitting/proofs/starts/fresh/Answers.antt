@@ -1,9 +1,8 @@
 -- `splitting::starts::fresh` meets its contract: each `return` is one of the ways out of the fresh start.
-use mathlib.Core.Path.{◌≡◌, ap, subst, subst₂, ◌∙◌}
+use mathlib.Core.Path.{subst₂}
 use mathlib.Core.Logic.{inl, inr}
 use mathlib.Core.List.{List}
 use Prim.Native.Nat.{ℕ}
-use lib.ListN.{length}
 use Rattle.layering.specs.Layered.{FirstNamed}
 use Rattle.splitting.specs.Filling.{FreshFilled}
 use Rattle.std.proofs.lemmas.Result.{err_from_is_err_and}
