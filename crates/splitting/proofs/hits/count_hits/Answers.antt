@@ -67,10 +67,10 @@ loop-x-preserved c =
     let class = class_in z.states a.work.now in
     let lead_is : c.leads.result ≡ leads_to M class a.q a.a l.x =
     (c.leads.ensures ∙ ap (λ (xs : List ℕ). leads_to M xs a.q a.a l.x) (counted_class M class a.q a.a a.work.now l.x l.entries l.work d (omega (arith, c.requires.room)))) in
-      elim c.if-leads.branch [
-        | then-leads w ↦
-            (let e = class_is z.states l.x a.work.now l.work w.number_at.result t d.beyond w.number_at.ensures.value in
-            counted-as (sym (w.work-is ∙ w.note_hit.ensures)) (sym w.entries-is)
-            (counted_hit M class a.q a.a a.work.now l.x l.entries l.work d w.number_at.result e t (class_within z.states l.x w.number_at.result class c.requires.classed t e) (omega (arith, c.requires.room)) (sym lead_is ∙ w.if-leads.true)))
-        | else-leads w ↦ counted-as (sym w.work-is) (sym w.entries-is) (counted_miss M class a.q a.a a.work.now l.x l.entries l.work d (sym lead_is ∙ w.if-leads.false))
-      ]
+    elim c.if-leads.branch [
+      | then-leads w ↦
+          (let e = class_is z.states l.x a.work.now l.work w.number_at.result t d.beyond w.number_at.ensures.value in
+          counted-as (sym (w.work-is ∙ w.note_hit.ensures)) (sym w.entries-is)
+          (counted_hit M class a.q a.a a.work.now l.x l.entries l.work d w.number_at.result e t (class_within z.states l.x w.number_at.result class c.requires.classed t e) (omega (arith, c.requires.room)) (sym lead_is ∙ w.if-leads.true)))
+      | else-leads w ↦ counted-as (sym w.work-is) (sym w.entries-is) (counted_miss M class a.q a.a a.work.now l.x l.entries l.work d (sym lead_is ∙ w.if-leads.false))
+    ]
