@@ -13,7 +13,7 @@ use lib.Dec.{eqb}
 use lib.ListN.{length, set, length-set}
 use lib.Seq.{get_or-set_same, get_or-set_other}
 use Rattle.std.specs.Prelude.{Option, None, Some}
-use Rattle.core.specs.Option.{unwrap_or}
+use Rattle.std.specs.Option.{unwrap_or}
 use Rattle.counting.specs.Lists.{at}
 use Rattle.counting.specs.Least.{name, IsFirst}
 use Rattle.counting.proofs.Leasts.{first_least}

@@ -6,16 +6,16 @@ use Rattle.shrink.proofs.Accepting.{made_accepted, accepted_made}
 use Rattle.shrink.proofs.shrink_file.Goals as goal
 
 pub slice_bounds-out-end : goal.slice_bounds-out-end
-slice_bounds-out-end g c = (made_is _ _ _ c.in-Made.ensures).room
+slice_bounds-out-end g c = (made_is _ _ _ c.in-Ok.ensures).room
 
 pub slice_bounds-write_shrunk-end : goal.slice_bounds-write_shrunk-end
-slice_bounds-write_shrunk-end g c = sym (length-take-le _ _ (made_is _ _ _ c.in-Made.ensures).room)
+slice_bounds-write_shrunk-end g c = sym (length-take-le _ _ (made_is _ _ _ c.in-Ok.ensures).room)
 
 pub write_shrunk-requires : goal.write_shrunk-requires
-write_shrunk-requires g c = (made_is _ _ _ c.in-Made.ensures).front
+write_shrunk-requires g c = (made_is _ _ _ c.in-Ok.ensures).front
 
-pub returns-in-Made-clause-refused : goal.returns-in-Made-clause-refused
-returns-in-Made-clause-refused g c = λ refused. absurd (refused (made_accepted _ _ _ _ c.in-Made.ensures))
+pub returns-in-Ok-clause-refused : goal.returns-in-Ok-clause-refused
+returns-in-Ok-clause-refused g c = λ refused. absurd (refused (made_accepted _ _ _ _ c.in-Ok.ensures))
 
-pub returns-in-Refused-clause-accepted : goal.returns-in-Refused-clause-accepted
-returns-in-Refused-clause-accepted g c = λ accepted. absurd (accepted_made _ _ _ (omega arith) (omega arith) c.in-Refused.ensures accepted)
+pub returns-in-Err-clause-accepted : goal.returns-in-Err-clause-accepted
+returns-in-Err-clause-accepted g c = λ accepted. absurd (accepted_made _ _ _ (omega arith) (omega arith) c.in-Err.ensures accepted)
