@@ -3,22 +3,23 @@ use mathlib.Core.Path.{◌≡◌, refl, sym, ap, subst, ◌∙◌}
 use mathlib.Core.Logic.{◌≢◌}
 use mathlib.Core.Bool.{Bool}
 use mathlib.Core.List.{List}
-use Prim.Native.Nat.{ℕ, suc, ◌+◌, ◌*◌, ◌≤◌, ◌<◌}
+use Prim.Native.Nat.{ℕ, suc, ◌+◌, ◌-◌, ◌*◌, ◌≤◌, ◌<◌}
 use native.Mathlib.Nat.{not-suc-le-zero}
 use native.Mathlib.Numerals.{add-one}
-use native.Mathlib.Decide.{ℕ_discrete}
+use native.Mathlib.Decide.{dec_lt, ℕ_discrete}
 use native.Mathlib.Omega.{arith}
 use borrow.Author.Tests.{eqb-true, eqb-false, eq-eqb, ne_eqb}
 use lib.Dec.{eqb}
-use lib.ListN.{length, set, length-set}
+use borrow.Rule.Slice.PartMut.{put_mid}
+use lib.ListN.{length, set, take, drop, replicate, length-set}
 use lib.Seq.{get_or-set_same, get_or-set_other}
 use Rattle.std.specs.Prelude.{Option, None, Some}
 use Rattle.std.specs.Option.{unwrap_or}
 use Rattle.counting.specs.Lists.{at}
 use Rattle.counting.specs.Least.{name, IsFirst}
 use Rattle.counting.proofs.Leasts.{first_least}
-use Rattle.layering.specs.Layered.{FirstNamed, Begun}
-use Rattle.layering.proofs.Emptying.{Zeroed}
+use Rattle.layering.specs.Layered.{FirstNamed, Unborn, Begun}
+use Rattle.layering.proofs.Emptying.{Zeroed, zeroed}
 
 pub first_named_none : (marks w : List ℕ) → FirstNamed marks 0 w w
 first_named_none marks w = record { long = refl; names = λ x l. absurd (not-suc-le-zero l); beyond = λ i l. refl }
@@ -34,12 +35,33 @@ first_named_more q v marks w₀ w room e b = record {
   beyond = λ i m. get_or-set_other w q i v 0 (omega arith) ∙ b.beyond i (omega arith);
 }
 
+pub unborn_none : (n : ℕ) (w : List ℕ) → Unborn n 0 w w
+unborn_none n w = record { long = refl; births = λ x l. absurd (not-suc-le-zero l); below = λ i l. refl; beyond = λ i l. refl }
+
+-- births from one on to another set to 0
+pub unborn_more : (n q r from to : ℕ) (w₀ w v : List ℕ) → from ≡ 3 * n + q → to ≡ 3 * n + r → r ≤ n → Zeroed from to w v → Unborn n q w₀ w → Unborn n r w₀ v
+unborn_more n q r from to w₀ w v f t m z b = record {
+  long = z.long ∙ b.long;
+  births = λ x l.
+      elim (dec_lt x q) [
+        | yes h ↦ z.below (3 * n + x) (omega arith) ∙ b.births x h
+        | no h ↦ z.zero (3 * n + x) (omega arith) (omega arith)
+      ];
+  below = λ i l. z.below i (omega arith) ∙ b.below i l;
+  beyond = λ i l. z.beyond i (omega arith) ∙ b.beyond i l;
+}
+
+-- all births filled at once
+pub unborn_filled : (n : ℕ) (w zeros : List ℕ) → 6 * n ≤ length w → zeros ≡ replicate (length (take (4 * n - 3 * n) (drop (3 * n) w))) 0 → Unborn n n w (put_mid (3 * n) (4 * n - 3 * n) w zeros)
+unborn_filled n w zeros room e =
+    unborn_more n 0 n (3 * n) (4 * n) w w _ (omega arith) (omega arith) (omega arith) (zeroed (3 * n) (4 * n) w zeros (omega arith) (omega arith) e) (unborn_none n w)
+
 -- named, then born
-pub begun_born : (n : ℕ) (marks w₀ w v : List ℕ) → FirstNamed marks n w₀ w → Zeroed (3 * n) (4 * n) w v → Begun n marks w₀ v
+pub begun_born : (n : ℕ) (marks w₀ w v : List ℕ) → FirstNamed marks n w₀ w → Unborn n n w v → Begun n marks w₀ v
 begun_born n marks w₀ w v a b = record {
   long = b.long ∙ a.long;
   names = λ x l. b.below x (omega arith) ∙ a.names x l;
-  births = λ c l. b.zero (3 * n + c) (omega arith) (omega arith);
+  births = b.births;
   beyond = λ i l. b.beyond i (omega arith) ∙ a.beyond i (omega arith);
 }
 

@@ -27,6 +27,13 @@ pub record FirstNamed (marks : List ℕ) (q : ℕ) (before after : List ℕ) : T
   pub names : (x : ℕ) → x < q → at after x ≡ name (λ y z. eqb (at marks y) (at marks z)) x
   pub beyond : (i : ℕ) → q ≤ i → at after i ≡ at before i
 
+-- The first q names are born in layer 0; all but the births is as it was.
+pub record Unborn (n q : ℕ) (before after : List ℕ) : Type 0 where
+  pub long : length after ≡ length before
+  pub births : (x : ℕ) → x < q → born n after x ≡ 0
+  pub below : (i : ℕ) → i < 3 * n → at after i ≡ at before i
+  pub beyond : (i : ℕ) → 4 * n ≤ i → at after i ≡ at before i
+
 -- The first names: each state has the first state of its mark for a name, born in layer 0; all beyond the first 6 × n numbers is as it was.
 pub record Begun (n : ℕ) (marks before after : List ℕ) : Type 0 where
   pub long : length after ≡ length before

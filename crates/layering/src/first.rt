@@ -26,7 +26,7 @@ pub fn mark_names(marks: &Marks<'_>, names: &mut [u16])
 }
 
 // Names each state by the first state of its mark, and notes that these names are born in layer 0.
-#[tactic(auto, using(crate::proofs::Beginning::begun_born, crate::proofs::Emptying::zeroed))]
+#[tactic(auto, using(crate::proofs::Beginning::begun_born, crate::proofs::Beginning::unborn_filled))]
 pub fn first_names(marks: &Marks<'_>, work: &mut [u16])
     requires { 6 * length marks.now.bytes.now ≤ length work.old }
     ensures { Begun (length marks.now.bytes.now) marks.now.bytes.now work.old work.new }
