@@ -23,7 +23,7 @@ use Rattle.table.specs.declared.answer.Sizes.{Sizes}
 use Rattle.table.specs.declared.tables.Table.{Table}
 use Rattle.table.proofs.Leavings.{file_refused, file_given, refuses_here, refuses_not}
 use Rattle.table.proofs.Openings.{good_given}
-use Rattle.table.proofs.Handing.{machine_is}
+use Rattle.table.proofs.Handing.{table_machine}
 use Rattle.layering.specs.Layered.{Settled}
 use Rattle.layering.specs.Calls.{layers_of, layers_leave}
 
@@ -48,17 +48,13 @@ module _ (M : Machine) (before after : List ℕ) (r : ℕ) (s : Settled M before
   unfolding class_count
   count_is = count_cong M.size _ _ (λ x l. ap (λ (c : ℕ). eqb c x) (named x l))
 
--- a table's machine is its file's
-machine_lent : {file : List ℕ} {t : Table} → TableOf file t → machine t ≡ machine_of file
-machine_lent {file} {t} o = rw (o.marks, o.nexts) (machine_is file t.nexts.sizes o.good)
-
 module _ (file : List ℕ) (t : Table) (o : TableOf file t) (work result : List ℕ) where
   abbrev z : Sizes
   z = t.nexts.sizes
 
   given : layers_leave file work result ≡ layers_of (machine t) work result
   unfolding layers_leave
-  given = file_given file (work ∷ result ∷ []) _ (good_given o.good) ∙ ap (λ (M : Machine). layers_of M work result) (sym (machine_lent o))
+  given = file_given file (work ∷ result ∷ []) _ (good_given o.good) ∙ ap (λ (M : Machine). layers_of M work result) (sym (table_machine o))
 
   pub layers_narrow : length work < 16 * z.states → left (refuses 11 (16 * z.states)) (work ∷ result ∷ []) ≡ layers_leave file work result
   unfolding layers_of

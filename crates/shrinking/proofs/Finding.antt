@@ -37,7 +37,7 @@ use Rattle.table.proofs.Handing.{held_lawful}
 use Rattle.splitting.specs.Work.{lists_in, class_in}
 use Rattle.splitting.specs.Starting.{StartedIn}
 use Rattle.splitting.specs.Running.{RanIn}
-use Rattle.splitting.proofs.Places.{part_at, part_long, part_is}
+use Rattle.counting.proofs.Parts.{part_at, part_long, part_is}
 use Rattle.splitting.proofs.RunWays.{lists_bare, takes_bare}
 use Rattle.shrinking.specs.Reached.{flag_at, class_at, number_at, row_at, holds, flagged_below, Found, Flagged, Numbered}
 use Rattle.shrinking.specs.Written.{rows_in, classes_in, Writable}

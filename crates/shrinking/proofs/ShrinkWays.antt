@@ -19,7 +19,7 @@ use Rattle.table.specs.declared.tables.Table.{Table}
 use Rattle.table.proofs.Encodings.{encoded_length}
 use Rattle.table.proofs.Leavings.{file_refused, file_given, refuses_here, refuses_not}
 use Rattle.table.proofs.Openings.{good_given}
-use Rattle.table.proofs.Handing.{machine_is}
+use Rattle.table.proofs.Handing.{table_machine}
 use Rattle.shrinking.specs.Shrunk.{shrunk}
 use Rattle.shrinking.specs.Written.{row_machine, file_length}
 use Rattle.shrinking.specs.Found.{RowsFound}
@@ -47,11 +47,6 @@ module _ (M : Machine) (before after : List ℕ) (count takes : ℕ) (f : RowsFo
 
   length_is : file_length count M.signs ≡ length (encode (quotient M))
   length_is = ap (λ (r : ℕ). file_length r M.signs) f.counted ∙ sym (encoded_length (quotient M))
-
--- the machine of a file's table is the file's
-table_machine : {file : List ℕ} {t : Table} → TableOf file t → machine t ≡ machine_of file
-table_machine {file} {t} h =
-    ap₂ (λ (marks nexts : List ℕ). machine_in t.nexts.sizes.states t.nexts.sizes.signs t.nexts.sizes.start marks nexts) h.marks h.nexts ∙ machine_is file t.nexts.sizes h.good
 
 -- the ways out of a file whose table is t
 module _ (file : List ℕ) (t : Table) (h : TableOf file t) (work out : List ℕ) where

@@ -19,7 +19,8 @@ use Rattle.refining.specs.Take.{take as take_of}
 use Rattle.refining.proofs.Runs.{take_long}
 use Rattle.splitting.specs.Work.{size_of, first_of, gone_of, led_of, class_of, pending_of, class_in, pending_in, lists_in, goes_by, first_goer, Classed, Ready, Counted, Unled, Renamed, Taken}
 use Rattle.splitting.specs.Parts.{kept_of, kept_pending, new_pending, Shared, Adopted}
-use Rattle.splitting.proofs.Places.{part_at, part_same, part-set, lists_are}
+use Rattle.counting.proofs.Parts.{part_at, part_same, part-set}
+use Rattle.splitting.proofs.Places.{lists_are}
 use Rattle.splitting.proofs.Divisions as divisions
 use Rattle.splitting.proofs.Dueness.{Due, classed_due, entries_due, class_is, pending_kept, pending_new, pending_other, class_quiet, pending_quiet}
 use Rattle.splitting.proofs.Quietness.{nobody_goes}

@@ -18,7 +18,7 @@ use Rattle.counting.specs.Counts.{count}
 use Rattle.counting.proofs.Tallies.{count_most}
 use Rattle.automaton.specs.Machine.{Machine}
 use Rattle.splitting.specs.Work.{class_in, leads_to, led_of, touched_of, Counted}
-use Rattle.splitting.proofs.Places.{part_same}
+use Rattle.counting.proofs.Parts.{part_same}
 
 -- one number more that passes, or that doesn't
 pub count_hit : (x : ℕ) (P : ℕ → Bool) → P x ≡ true → count (x + 1) P ≡ count x P + 1

@@ -21,7 +21,7 @@ use Rattle.refining.specs.Lists.{Split, WellFormed, waiting}
 use Rattle.refining.specs.Take.{taken_class, taken_sign, take as take_of, entries}
 use Rattle.refining.proofs.Points as points
 use Rattle.splitting.specs.Work.{pending_of, class_in, pending_in, lists_in, leads_to, goes_by, goer, first_goer, Classed}
-use Rattle.splitting.proofs.Places.{part_at, part_long}
+use Rattle.counting.proofs.Parts.{part_at, part_long}
 use Rattle.splitting.proofs.Divisions.{first_is, new_name, gone_none, gone_some}
 
 -- well_formed lists are classed

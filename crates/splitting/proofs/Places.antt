@@ -1,51 +1,23 @@
--- A list that stands in the work slice from a place on, number by number. Rests on the laws of `take` and `drop`.
-use mathlib.Core.Path.{◌≡◌, sym, ap, ◌∙◌}
+-- The two lists of a splitting in the work slice, number by number. Rests on the laws of parts of a list.
+use mathlib.Core.Path.{◌≡◌, sym, ◌∙◌}
 use mathlib.Core.List.{List}
 use Prim.Native.Nat.{ℕ, ◌+◌, ◌*◌, ◌≤◌, ◌<◌}
-use native.Mathlib.Decide.{ℕ_discrete}
 use native.Mathlib.Omega.{arith}
-use lib.ListN.{length, take, drop, set, length-drop, length-set}
-use lib.Seq.{ext_get_or, get_or-take, get_or-drop, get_or-set_same, get_or-set_other, length-take-le}
+use lib.ListN.{length}
 use Rattle.counting.specs.Lists.{at}
+use Rattle.counting.proofs.Parts.{part_at, part_is, part_long}
 use Rattle.refining.specs.Lists.{Split}
-use Rattle.splitting.specs.Work.{class_of, pending_of, class_in, pending_in, lists_in}
+use Rattle.splitting.specs.Work.{class_of, pending_of, class_in, pending_in, lists_in, Classed}
 
-module _ (n m : ℕ) where
-  pub part_at : (work : List ℕ) (x : ℕ) → x < n → at (take n (drop m work)) x ≡ at work (m + x)
-  part_at work x l = get_or-take n (drop m work) x 0 l ∙ get_or-drop m work x 0
+-- the class read of a state is the one that it had, where that has not changed, and it is a state
+pub class_read : (n x r : ℕ) (before after : List ℕ) → x < n
+    → at after (6 * n + x) ≡ at before (6 * n + x)
+    → r ≡ at after (6 * n + x)
+    → r ≡ at (class_in n before) x
+class_read n x r before after t same e = e ∙ same ∙ sym (part_at n (6 * n) before x t)
 
-  pub part_long : (work : List ℕ) → m + n ≤ length work → length (take n (drop m work)) ≡ n
-  part_long work room = length-take-le n (drop m work) (omega (arith, length-drop m work))
-
-  -- it is a list that has its numbers
-  pub part_is : (work xs : List ℕ) → m + n ≤ length work → length xs ≡ n → ((x : ℕ) → x < n → at work (m + x) ≡ at xs x) → take n (drop m work) ≡ xs
-  part_is work xs room long same =
-      let e : length (take n (drop m work)) ≡ n = part_long work room in
-      ext_get_or 0 (take n (drop m work)) xs (e ∙ sym long) (λ x l. let k : x < n = omega (arith, e) in part_at work x k ∙ same x k)
-
-  -- slices that agree there have one list
-  pub part_same : (v w : List ℕ) → m + n ≤ length w → length v ≡ length w → ((x : ℕ) → x < n → at v (m + x) ≡ at w (m + x)) → take n (drop m v) ≡ take n (drop m w)
-  part_same v w room long same = part_is v (take n (drop m w)) (omega arith) (part_long w room) (λ x l. same x l ∙ sym (part_at w x l))
-
-  -- a store there is a store in the list
-  pub part-set : (work : List ℕ) (q a : ℕ) → m + n ≤ length work → q < n → take n (drop m (set work (m + q) a)) ≡ set (take n (drop m work)) q a
-  part-set work q a room k = part_is (set work (m + q) a) (set (take n (drop m work)) q a) (omega (arith, length-set work (m + q) a)) (length-set (take n (drop m work)) q a ∙ long) at_each
-    where
-      long : length (take n (drop m work)) ≡ n
-      long = part_long work room
-
-      at_each : (x : ℕ) → x < n → at (set work (m + q) a) (m + x) ≡ at (set (take n (drop m work)) q a) x
-      at_each x l = elim (ℕ_discrete x q) [
-        | yes e ↦
-            ap (λ (y : ℕ). at (set work (m + q) a) (m + y)) e
-            ∙ get_or-set_same work (m + q) a 0 (omega arith)
-            ∙ sym (get_or-set_same (take n (drop m work)) q a 0 (omega (arith, long)))
-            ∙ ap (at (set (take n (drop m work)) q a)) (sym e)
-        | no u ↦
-            get_or-set_other work (m + q) (m + x) a 0 (omega arith)
-            ∙ sym (part_at work x l)
-            ∙ sym (get_or-set_other (take n (drop m work)) q x a 0 u)
-      ]
+pub class_within : (n x r : ℕ) (class : List ℕ) → Classed n class → x < n → r ≡ at class x → r < n
+class_within n x r class d t e = omega (arith, e, d.low x t)
 
 -- the two lists in the work slice are a splitting's that has their numbers
 pub lists_are : (n : ℕ) (work : List ℕ) (s : Split) → 8 * n ≤ length work → (length s.class ≡ n) × (length s.pending ≡ n)

@@ -19,7 +19,8 @@ use Rattle.refining.proofs.Keeping.{take_keeps}
 use Rattle.refining.proofs.Runs.{lists_add, takes_add, entries_add, step-takes, run_idle, idle_takes, idle_entries}
 use Rattle.splitting.specs.Work.{lists_in, pending_of, Ready, Taken}
 use Rattle.splitting.specs.Running.{RanIn}
-use Rattle.splitting.proofs.Places.{part_at, lists_same}
+use Rattle.counting.proofs.Parts.{part_at}
+use Rattle.splitting.proofs.Places.{lists_same}
 
 -- a run of one step
 module _ (M : Machine) (s : Split) where

@@ -16,7 +16,7 @@ use Rattle.counting.proofs.Tallies.{count_most}
 use Rattle.automaton.specs.Machine.{Machine}
 use Rattle.splitting.specs.Work.{class_in, first_of, gone_of, renamed_of, leads_to, goes_by, goer, first_goer, Classed, Renamed}
 use Rattle.splitting.specs.Parts.{Named}
-use Rattle.splitting.proofs.Places.{part_same}
+use Rattle.counting.proofs.Parts.{part_same}
 use Rattle.splitting.proofs.Goers.{first_other, count_other, first_own, count_own, name_own}
 
 module _ (M : Machine) (class : List ℕ) (q a : ℕ) where

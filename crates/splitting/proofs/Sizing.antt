@@ -10,7 +10,7 @@ use Rattle.counting.specs.Counts.{count}
 use Rattle.lending.specs.Memory.{cleared}
 use Rattle.lending.proofs.Memories.{cleared_at, cleared_beyond, cleared-length}
 use Rattle.splitting.specs.Work.{size_of, class_in, Ready}
-use Rattle.splitting.proofs.Places.{part_same}
+use Rattle.counting.proofs.Parts.{part_same}
 
 -- The first x states are counted, each in its class.
 pub record Sizing (n x : ℕ) (class before after : List ℕ) : Type 0 where

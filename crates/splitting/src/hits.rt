@@ -7,7 +7,7 @@ use lending::number_at;
 use table::tables::NextStates;
 
 // Whether the next state of a state under a sign lies in a class; the classes of the states stand from a place on.
-#[tactic(auto, using(crate::proofs::Places::part_at), unfolding(crate::specs::Work::leads_to))]
+#[tactic(auto, using(counting::proofs::Parts::part_at), unfolding(crate::specs::Work::leads_to))]
 pub fn leads(
     nexts: &NextStates<'_>,
     work: &[u16],

@@ -26,7 +26,7 @@ pub struct Tally {
 }
 
 // Counts the states of each class.
-#[tactic(auto, using(crate::proofs::Places::part_at, counting::proofs::Tallies::count_most), unfolding(counting::specs::Counts::count))]
+#[tactic(auto, using(counting::proofs::Parts::part_at, counting::proofs::Tallies::count_most), unfolding(counting::specs::Counts::count))]
 fn count_sizes(work: &mut [u16], n: usize)
     requires room { (8 * n ≤ length work.old) × (n ≤ 1024) }
     requires classed { Classed n (class_in n work.old) }

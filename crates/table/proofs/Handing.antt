@@ -1,5 +1,5 @@
 -- What the bodies handed out of an accepted file hold: next states that are states, and the machine of the file.
-use mathlib.Core.Path.{◌≡◌, sym, subst}
+use mathlib.Core.Path.{◌≡◌, sym, ap₂, subst, ◌∙◌}
 use mathlib.Core.List.{List}
 use Prim.Native.Nat.{ℕ, ◌+◌, ◌*◌, ◌≤◌, ◌<◌}
 use native.Mathlib.Nat.{le_of_eq}
@@ -13,6 +13,8 @@ use Rattle.table.specs.declared.answer.Sizes.{Sizes}
 use Rattle.table.specs.Bodies.{part, body_in, PartOf}
 use Rattle.table.specs.Encoding.{machine_in, machine_of, Held, Marked}
 use Rattle.table.specs.Accepted.{Good}
+use Rattle.table.specs.Tables.{machine, TableOf}
+use Rattle.table.specs.declared.tables.Table.{Table}
 use Rattle.table.proofs.Contents.{part_length}
 use Rattle.table.proofs.Encodings.{machine_in_range}
 
@@ -59,3 +61,8 @@ module _ (file : List ℕ) (z : Sizes) (g : Good file z) where
 
   pub marked : Marked (marks_in file z)
   marked = record { few = omega (arith, marks_long, g.range.states_most); small = λ q l. marks_small q (omega (arith, marks_long)) }
+
+-- the machine of a file's table is the file's
+pub table_machine : {file : List ℕ} {t : Table} → TableOf file t → machine t ≡ machine_of file
+table_machine {file} {t} h =
+    ap₂ (λ (marks nexts : List ℕ). machine_in t.nexts.sizes.states t.nexts.sizes.signs t.nexts.sizes.start marks nexts) h.marks h.nexts ∙ machine_is file t.nexts.sizes h.good

@@ -22,7 +22,7 @@ use Rattle.table.specs.Tables.{machine, TableOf}
 use Rattle.table.specs.declared.tables.Table.{Table}
 use Rattle.table.proofs.Leavings.{file_refused, file_given, refuses_here, refuses_not}
 use Rattle.table.proofs.Openings.{good_given}
-use Rattle.table.proofs.Handing.{machine_is}
+use Rattle.table.proofs.Handing.{table_machine}
 use Rattle.layering.specs.Layered.{InLayer, Settled}
 use Rattle.telling.specs.Kept.{Keeps}
 use Rattle.telling.specs.Calls.{spoken, tell_of, tell_leaves}
@@ -68,11 +68,6 @@ module _ (M : Machine) (lawful : Lawful M) (p q : ℕ) (k : p < M.size) (l : q <
         (told_apart
         ∙ refuses_not 12 (length (word_from M d p q)) (work ∷ word ∷ []) _ (le-ltb (length word) (length (word_from M d p q)) (omega (arith, word_long)))
         ∙ ap (λ (i : ℕ). left (gives (i ∷ [])) (work ∷ written (word_from M d p q) word ∷ [])) word_long)
-
--- the machine of a file's table is the file's
-table_machine : {file : List ℕ} {t : Table} → TableOf file t → machine t ≡ machine_of file
-table_machine {file} {t} h =
-    ap₂ (λ (marks nexts : List ℕ). machine_in t.nexts.sizes.states t.nexts.sizes.signs t.nexts.sizes.start marks nexts) h.marks h.nexts ∙ machine_is file t.nexts.sizes h.good
 
 pub tell_refused : (file : List ℕ) (p q : ℕ) (work word : List ℕ) {number place : ℕ} → judged file ≡ refuses number place → left (refuses number place) (work ∷ word ∷ []) ≡ tell_leaves file p q work word
 unfolding tell_leaves

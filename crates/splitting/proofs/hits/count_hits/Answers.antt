@@ -6,21 +6,10 @@ use native.Mathlib.Omega.{arith}
 use Rattle.counting.specs.Lists.{at}
 use Rattle.table.specs.Tables.{unmarked}
 use Rattle.splitting.specs.Work.{class_in, leads_to, Classed}
-use Rattle.splitting.proofs.Places.{part_at}
+use Rattle.splitting.proofs.Places.{class_read, class_within}
 use Rattle.splitting.proofs.Columns.{counted-as, counted_none, counted_miss, counted_hit, counted_class, looked_most, led_most}
 use Rattle.splitting.proofs.hits.count_hits.Goals as goal
 use Rattle.splitting.proofs.hits.count_hits.Goals.{then-leads, else-leads}
-
--- the class read of a state is the one that it had at the start
-class_is : (n x : ℕ) (before after : List ℕ) (r : ℕ) → x < n
-    → ((i : ℕ) → 6 * n ≤ i → at after i ≡ at before i)
-    → r ≡ at after (6 * n + x)
-    → r ≡ at (class_in n before) x
-class_is n x before after r t same e = e ∙ same (6 * n + x) (omega arith) ∙ sym (part_at n (6 * n) before x t)
-
--- it is a state
-class_within : (n x r : ℕ) (class : List ℕ) → Classed n class → x < n → r ≡ at class x → r < n
-class_within n x r class d t e = omega (arith, e, d.low x t)
 
 pub loop-x-init : goal.loop-x-init
 loop-x-init c =
@@ -35,7 +24,7 @@ note_hit-requires-clause-within c =
     let l = c.loop-x in
     let d = l.invariant in
     let class = class_in z.states a.work.now in (
-      class_within z.states l.x c.number_at.result class c.requires.classed c.loop-x-test.true (class_is z.states l.x a.work.now l.work c.number_at.result c.loop-x-test.true d.beyond c.number_at.ensures.value),
+      class_within z.states l.x c.number_at.result class c.requires.classed c.loop-x-test.true (class_read z.states l.x c.number_at.result a.work.now l.work c.loop-x-test.true (d.beyond (6 * z.states + l.x) (omega arith)) c.number_at.ensures.value),
       omega (arith, looked_most (unmarked a.nexts.now) class a.q a.a a.work.now l.x l.entries l.work d),
     )
 
@@ -46,7 +35,7 @@ note_hit-requires-clause-small c =
     let l = c.loop-x in
     let d = l.invariant in
     let class = class_in z.states a.work.now in
-    let k = class_within z.states l.x c.number_at.result class c.requires.classed c.loop-x-test.true (class_is z.states l.x a.work.now l.work c.number_at.result c.loop-x-test.true d.beyond c.number_at.ensures.value) in
+    let k = class_within z.states l.x c.number_at.result class c.requires.classed c.loop-x-test.true (class_read z.states l.x c.number_at.result a.work.now l.work c.loop-x-test.true (d.beyond (6 * z.states + l.x) (omega arith)) c.number_at.ensures.value) in
     omega (arith, led_most (unmarked a.nexts.now) class a.q a.a a.work.now l.x l.entries l.work d c.number_at.result k, c.args.nexts.now.held.range.states_most)
 
 pub overflow_add-entries : goal.overflow_add-entries
@@ -69,7 +58,7 @@ loop-x-preserved c =
     (c.leads.ensures ∙ ap (λ (xs : List ℕ). leads_to M xs a.q a.a l.x) (counted_class M class a.q a.a a.work.now l.x l.entries l.work d (omega (arith, c.requires.room)))) in
     elim c.if-leads.branch [
       | then-leads w ↦
-          (let e = class_is z.states l.x a.work.now l.work w.number_at.result t d.beyond w.number_at.ensures.value in
+          (let e = class_read z.states l.x w.number_at.result a.work.now l.work t (d.beyond (6 * z.states + l.x) (omega arith)) w.number_at.ensures.value in
           counted-as (sym (w.work-is ∙ w.note_hit.ensures)) (sym w.entries-is)
           (counted_hit M class a.q a.a a.work.now l.x l.entries l.work d w.number_at.result e t (class_within z.states l.x w.number_at.result class c.requires.classed t e) (omega (arith, c.requires.room)) (sym lead_is ∙ w.if-leads.true)))
       | else-leads w ↦ counted-as (sym w.work-is) (sym w.entries-is) (counted_miss M class a.q a.a a.work.now l.x l.entries l.work d (sym lead_is ∙ w.if-leads.false))

@@ -7,20 +7,9 @@ use Rattle.counting.specs.Lists.{at}
 use Rattle.automaton.specs.Machine.{Machine}
 use Rattle.table.specs.Tables.{unmarked}
 use Rattle.splitting.specs.Work.{class_in, leads_to, Classed, Renamed}
-use Rattle.splitting.proofs.Places.{part_at}
+use Rattle.splitting.proofs.Places.{class_read, class_within}
 use Rattle.splitting.proofs.Renaming.{renamed_none, gone_small, renamed_class, renamed_more, goes_by_lem}
 use Rattle.splitting.proofs.parts.rename.Goals as goal
-
--- what is read of the classes was there at the start
-class_is : (M : Machine) (q a x r : ℕ) (before after : List ℕ) → x < M.size
-    → Renamed M (class_in M.size before) q a x before after
-    → r ≡ at after (6 * M.size + x)
-    → r ≡ at (class_in M.size before) x
-class_is M q a x r before after t d e = e ∙ d.beyond (6 * M.size + x) (omega arith) ∙ sym (part_at M.size (6 * M.size) before x t)
-
--- the class is a state
-class_small : (n x r : ℕ) (class : List ℕ) → Classed n class → x < n → r ≡ at class x → r < n
-class_small n x r class k t e = omega (arith, e, k.low x t)
 
 pub loop-x-init : goal.loop-x-init
 loop-x-init c =
@@ -36,8 +25,8 @@ name_anew-requires-clause-small c =
     let d = l.invariant in
     let M = unmarked a.nexts.now in
     let class = class_in z.states a.work.now in
-    let e = class_is M a.q a.a l.x c.number_at-c.result a.work.now l.work c.loop-x-test.true d c.number_at-c.ensures.value in
-    let k = class_small z.states l.x c.number_at-c.result class c.requires.classed c.loop-x-test.true e in
+    let e = class_read z.states l.x c.number_at-c.result a.work.now l.work c.loop-x-test.true (d.beyond (6 * z.states + l.x) (omega arith)) c.number_at-c.ensures.value in
+    let k = class_within z.states l.x c.number_at-c.result class c.requires.classed c.loop-x-test.true e in
     omega (arith, gone_small M class a.q a.a l.x a.work.now l.work d c.number_at-c.result k, c.args.nexts.now.held.range.states_most)
 
 pub loop-x-preserved : goal.loop-x-preserved
@@ -49,7 +38,7 @@ loop-x-preserved c =
     let t = c.loop-x-test.true in
     let M = unmarked a.nexts.now in
     let class = class_in z.states a.work.now in
-    let e = class_is M a.q a.a l.x c.number_at-c.result a.work.now l.work t d c.number_at-c.ensures.value in
+    let e = class_read z.states l.x c.number_at-c.result a.work.now l.work t (d.beyond (6 * z.states + l.x) (omega arith)) c.number_at-c.ensures.value in
     let same = renamed_class M class a.q a.a l.x a.work.now l.work d c.requires.room in
     let own = c.leads-own.ensures ∙ ap (λ (xs : List ℕ). leads_to M xs a.q a.a l.x) same in
     let name = c.leads-name.ensures ∙ ap (λ (xs : List ℕ). leads_to M xs a.q a.a c.number_at-c.result) same in

@@ -13,7 +13,7 @@ use Rattle.std.proofs.lemmas.Grind.{common_steps}
 use Rattle.counting.specs.Lists.{at}
 use Rattle.counting.specs.Counts.{count}
 use Rattle.splitting.proofs.Columns.{count_hit, count_miss}
-use Rattle.splitting.proofs.Places.{part_at}
+use Rattle.counting.proofs.Parts.{part_at}
 use Rattle.splitting.proofs.runs.count_sizes.Goals as goal
 
 -- one state of class r more counted
