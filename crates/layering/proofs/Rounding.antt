@@ -1,16 +1,15 @@
 -- A round, state by state: its beginning, and one state more.
 use mathlib.Core.Path.{◌≡◌, refl, sym, subst, subst₂, ◌∙◌}
 use mathlib.Core.Logic.{◌≢◌}
-use mathlib.Core.Bool.{Bool, true, false, ◌||◌, true≢false}
+use mathlib.Core.Bool.{Bool, true, false, ◌||◌}
 use mathlib.Core.List.{List}
 use Prim.Native.Nat.{ℕ, suc, ◌+◌, ◌*◌, ◌<◌}
-use native.Mathlib.Nat.{not-suc-le-zero}
 use native.Mathlib.Decide.{ℕ_discrete}
 use native.Mathlib.Omega.{arith}
 use Rattle.counting.proofs.Cases.{by_test, neither}
 use Rattle.automaton.specs.Machine.{Machine}
 use Rattle.layering.proofs.Emptying.{Zeroed}
-use Rattle.layering.specs.Work.{this, later, head, born, from, Named, Advanced, Rounded}
+use Rattle.layering.specs.Work.{this, later, born, from, Named, Advanced, Rounded}
 
 -- the round, seen from before its buckets were emptied
 pub round_from : (M : Machine) (w v u : List ℕ) (round : ℕ) (t : Bool) → Zeroed (5 * M.size) (6 * M.size) w v → Rounded M v u round M.size t → Rounded M w u round M.size t

@@ -1,6 +1,6 @@
 -- Each run has one answer: the definition that takes it to the paper's number and values is one to one.
 use mathlib.Core.Path.{◌≡◌, sym, ◌∙◌}
-use mathlib.Core.List.{List, [], ◌∷◌}
+use mathlib.Core.List.{List}
 use Prim.Native.Nat.{ℕ}
 use Rattle.std.specs.Prelude.{Result}
 use Rattle.table.specs.declared.answer.Refusal.{Refusal}
