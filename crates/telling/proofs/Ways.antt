@@ -1,5 +1,5 @@
 -- The ways out of telling two states apart, each with its facts.
-use mathlib.Core.Path.{◌≡◌, refl, sym, ap, ap₂, subst, ◌∙◌}
+use mathlib.Core.Path.{◌≡◌, refl, sym, ap, subst, ◌∙◌}
 use mathlib.Core.Logic.{◌≢◌}
 use mathlib.Core.List.{List, [], ◌∷◌}
 use Prim.Native.Nat.{ℕ, ◌*◌, ◌≤◌, ◌<◌}
@@ -17,7 +17,6 @@ use Rattle.lending.specs.Memory.{cleared, written}
 use Rattle.table.specs.Answers.{gives, refuses}
 use Rattle.table.specs.Judging.{judged}
 use Rattle.table.specs.Leaving.{left}
-use Rattle.table.specs.Encoding.{machine_in, machine_of}
 use Rattle.table.specs.Tables.{machine, TableOf}
 use Rattle.table.specs.declared.tables.Table.{Table}
 use Rattle.table.proofs.Leavings.{file_refused, file_given, refuses_here, refuses_not}
