@@ -133,34 +133,14 @@ pub fn refused_contents<P: Print>(output: &mut Output<'_, P>)
     output.show("T1 with one byte more: 3 at 40", refused_behind());
 }
 
-// The marks, and the next states, of a table as large as can be; the `ensures` give the length alone, which lending them as slices needs.
-fn zero_marks() -> [u8; 1024]
-    ensures { 1024 ≡ length result }
-{
-    [0; 1024]
-}
-
-fn zero_nexts() -> [u16; 32000]
-    ensures { 32000 ≡ length result }
-{
-    [0; 32000]
-}
-
-// 65,536 bytes: room for a table as large as can be.
-fn largest_file() -> [u8; 65536]
-    ensures { 65536 ≡ length result }
-{
-    [0; 65536]
-}
-
 // Whether a table of these sizes, all its marks and next states 0, is accepted.
 fn in_range(states: usize, signs: usize) -> bool
     requires { (states ≤ 1024) × (signs ≤ 64) × (states * signs ≤ 32000) }
 {
-    let marks = zero_marks();
-    let nexts = zero_nexts();
+    let marks = [0u8; 1024];
+    let nexts = [0u16; 32000];
     let entries = states * signs;
-    let mut file = largest_file();
+    let mut file = [0u8; 65536];
     let length = files::write_table(&marks[..states], &nexts[..entries], signs, &mut file);
     asking::is_accepted(&file[..length], states, signs)
 }

@@ -11,20 +11,6 @@ use shrinking::shrinks::shrink;
 use std::io;
 use std::io::Write;
 
-// 16,384 numbers: 16 × n at the most states that a file can have.
-fn work_numbers() -> [u16; 16384]
-    ensures { 16384 ≡ length result }
-{
-    [0; 16384]
-}
-
-// 65,536 bytes: room for every shrunk file.
-fn out_bytes() -> [u8; 65536]
-    ensures { 65536 ≡ length result }
-{
-    [0; 65536]
-}
-
 // Writes the bytes of the shrunk file to standard output. The file itself is lent for the contract alone.
 fn write_shrunk<W: Write>(file: &[u8], bytes: &[u8], output: &mut W) -> io::Result<()>
     requires { bytes.now ≡ shrunk file.now }
@@ -33,13 +19,13 @@ fn write_shrunk<W: Write>(file: &[u8], bytes: &[u8], output: &mut W) -> io::Resu
     output.write_all(bytes)
 }
 
-// Writes the shrunk file of an accepted file, or the line of the refusal.
+// Writes the shrunk file of an accepted file, or the line of the refusal. Of numbers and bytes there are enough for the largest table.
 fn shrink_file<W: Write>(file: &[u8], output: &mut W, errors: &impl Eprint) -> io::Result<()>
     ensures accepted { Accepted file.now → OnOk result (Appends (W.contents output.old) (W.contents output.new) (shrunk file.now)) }
     ensures refused { (Accepted file.now → ⊥) → Keeps (W.contents output.old) (W.contents output.new) }
 {
-    let mut work = work_numbers();
-    let mut out = out_bytes();
+    let mut work = [0u16; 16384];
+    let mut out = [0u8; 65536];
     match shrink(file, &mut work, &mut out) {
         Ok(size) => write_shrunk(file, &out[..size.length], output),
         Err(refusal) => eprintln!(errors; "refused {refusal}"),

@@ -13,7 +13,7 @@ use Rattle.lending.proofs.Memories.{cleared_same}
 use Rattle.table.specs.Answers.{gives, refuses}
 use Rattle.table.specs.Judging.{judged}
 use Rattle.table.specs.Leaving.{Left, left, refusing}
-use Rattle.table.specs.Encoding.{machine_in, machine_of, encode}
+use Rattle.table.specs.Encoding.{machine_of, encode}
 use Rattle.table.specs.Tables.{machine, TableOf}
 use Rattle.table.specs.declared.tables.Table.{Table}
 use Rattle.table.proofs.Encodings.{encoded_length}

@@ -9,7 +9,7 @@ use crate::answer::{Part, Refusal, Sizes};
 use crate::judging::judge;
 use crate::tables::{Marks, NextStates, Table};
 
-// Where the body of a field stands, of a file of these sizes, which the judging gave.
+// Where the body of a field stands, of a file of these sizes, which the judging gave. A field is asked by its number and not by an enum, since the C interface asks with any number.
 pub fn part_in(sizes: Sizes, number: usize) -> Part
     requires { InRange sizes.states sizes.signs }
     ensures { result ≡ body_in sizes.states sizes.signs number }
