@@ -27,3 +27,11 @@ pub fn or_empty(alloc: Global, read: io::Result<Vec<u8>>) -> io::Result<Vec<u8>>
         read => read,
     }
 }
+
+#[test]
+fn reads_a_whole_file(rt: HostRuntime) -> io::Result<()> {
+    let bytes: &[u8] = &[1, 0, 6, 0, 5];
+    let file = or_empty(rt.alloc(), read_file(rt.alloc(), bytes))?;
+    assert!(rt; file.as_slice() == bytes);
+    Ok(())
+}
