@@ -44,11 +44,13 @@ pub fn count_hits(nexts: &NextStates<'_>, work: &mut [u16], q: usize, a: usize) 
     requires unled { (c : ℕ) → c < nexts.now.sizes.states → led_of nexts.now.sizes.states work.old c ≡ 0 }
     ensures { Counted (unmarked nexts.now) (class_in nexts.now.sizes.states work.old) q a nexts.now.sizes.states work.old work.new result }
 {
+    // A copy, which stays in registers while the work slice is written.
+    let nexts = *nexts;
     let n = nexts.sizes.states;
     let classes = 6 * n;
     let mut entries = 0;
     for x in 0..n {
-        if leads(nexts, work, classes, x, a, q) {
+        if leads(&nexts, work, classes, x, a, q) {
             note_hit(work, n, number_at(work, classes + x), entries);
             entries += 1;
         }

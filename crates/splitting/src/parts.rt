@@ -39,12 +39,14 @@ pub fn rename(nexts: &NextStates<'_>, work: &mut [u16], q: usize, a: usize)
     requires idle { (c : ℕ) → c < nexts.now.sizes.states → (first_of nexts.now.sizes.states work.old c ≡ 0) × (gone_of nexts.now.sizes.states work.old c ≡ 0) }
     ensures { Renamed (unmarked nexts.now) (class_in nexts.now.sizes.states work.old) q a nexts.now.sizes.states work.old work.new }
 {
+    // A copy, which stays in registers while the work slice is written.
+    let nexts = *nexts;
     let n = nexts.sizes.states;
     let classes = 6 * n;
     for x in 0..n {
         let c = number_at(work, classes + x);
-        let own = leads(nexts, work, classes, x, a, q);
-        let name = leads(nexts, work, classes, c, a, q);
+        let own = leads(&nexts, work, classes, x, a, q);
+        let name = leads(&nexts, work, classes, c, a, q);
         name_anew(work, n, c, x, own != name);
     }
 }
