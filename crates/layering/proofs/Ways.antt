@@ -17,7 +17,6 @@ use Rattle.lending.proofs.Memories.{cleared_same}
 use Rattle.table.specs.Answers.{gives, refuses}
 use Rattle.table.specs.Judging.{judged}
 use Rattle.table.specs.Leaving.{left}
-use Rattle.table.specs.Encoding.{machine_of}
 use Rattle.table.specs.Tables.{machine, TableOf}
 use Rattle.table.specs.declared.answer.Sizes.{Sizes}
 use Rattle.table.specs.declared.tables.Table.{Table}
