@@ -1,7 +1,7 @@
--- Numbers of the slice filled with 0: all others are as they were; and so the buckets are emptied.
+-- Numbers of the slice filled with 0: all others are as they were.
 use mathlib.Core.Path.{◌≡◌}
 use mathlib.Core.List.{List}
-use Prim.Native.Nat.{ℕ, ◌*◌, ◌-◌, ◌≤◌, ◌<◌}
+use Prim.Native.Nat.{ℕ, ◌-◌, ◌≤◌, ◌<◌}
 use native.Mathlib.Omega.{arith}
 use borrow.Rule.Slice.PartMut.{put_mid}
 use lib.ListN.{length, take, drop, replicate}
@@ -22,7 +22,3 @@ zeroed from to w zeros l room e = rw e record {
   below = λ i a. grind (arith, places);
   beyond = λ i a. grind (arith, places);
 }
-
--- the buckets emptied
-pub emptied : (n : ℕ) (w zeros : List ℕ) → 6 * n ≤ length w → zeros ≡ replicate (length (take (6 * n - 5 * n) (drop (5 * n) w))) 0 → Zeroed (5 * n) (6 * n) w (put_mid (5 * n) (6 * n - 5 * n) w zeros)
-emptied n w zeros = zeroed (5 * n) (6 * n) w zeros (omega arith)

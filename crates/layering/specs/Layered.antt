@@ -1,4 +1,4 @@
--- A layer in the work slice.
+-- A layer in the rounds' lists, and in the work slice.
 use Rattle.std.specs.Prelude.{◌≡◌, ◌≢◌, List, ℕ, ◌*◌, ◌≤◌, ◌<◌, eqb, length}
 use Rattle.counting.specs.Lists.{at}
 use Rattle.counting.specs.Least.{name}
@@ -6,6 +6,18 @@ use Rattle.automaton.specs.Machine.{Machine}
 use Rattle.automaton.specs.Layers.{layer, rounds}
 use Rattle.automaton.specs.Births.{birth, parent}
 use Rattle.layering.specs.Work.{this, born, from}
+
+-- The lists hold layer i: the name of each state; the birth of each name, and the parent of each name that layer 0 does not have.
+pub record AtLayer (M : Machine) (i : ℕ) (names births parents : List ℕ) : Type 0 where
+  pub reached : i ≤ rounds M
+  pub named : names ≡ layer M i
+  pub born-in : (c : ℕ) → c < M.size → at (layer M i) c ≡ c → at births c ≡ birth M c
+  pub comes_from : (c : ℕ) → c < M.size → at (layer M i) c ≡ c → at (layer M 0) c ≢ c → at parents c ≡ parent M c
+
+-- What the rounds leave in the lists: the last layer, r being the rounds.
+pub record Rested (M : Machine) (names births parents : List ℕ) (r : ℕ) : Type 0 where
+  pub last : r ≡ rounds M
+  pub layered : AtLayer M r names births parents
 
 -- The work slice holds layer i: the name of each state; the birth of each name, and the parent of each name that layer 0 does not have.
 pub record InLayer (M : Machine) (i : ℕ) (work : List ℕ) : Type 0 where

@@ -1,4 +1,5 @@
 -- Classes by layers, in lent memory.
+pub mod Sized
 pub mod Work
 pub mod Layered
 pub mod Calls

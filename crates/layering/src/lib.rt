@@ -3,4 +3,5 @@
 
 pub mod first;
 pub mod layers;
+pub mod rooms;
 pub mod rounds;

@@ -1,27 +1,28 @@
-// One round: the names of the next layer, in a few times n numbers of the work slice. A class that does not split costs one comparison for
+// One round: the names of the next layer, in lists of n numbers from the work slice. A class that does not split costs one comparison for
 // each of its states.
-ghost use Rattle.std.specs.Prelude.{◌≡◌, [], ℕ, ◌*◌, ◌<◌, ◌≤◌, length, take};
+ghost use Rattle.std.specs.Prelude.{◌≡◌, [], ℕ, ◌*◌, ◌<◌, ◌≤◌, length};
 ghost use Rattle.counting.specs.Lists.{at};
-ghost use Rattle.table.specs.Encoding.{machine_in};
 ghost use Rattle.table.specs.Tables.{machine, unmarked};
-ghost use Rattle.layering.specs.Layered.{InLayer, Settled};
-ghost use Rattle.layering.specs.Work.{same_nexts, bucket, Named, Done, Sought, Advanced, Rounded, Moved};
+ghost use Rattle.layering.specs.Layered.{AtLayer, Rested, Settled};
+ghost use Rattle.layering.specs.Sized.{Sized};
+ghost use Rattle.layering.specs.Work.{numbers_of, marked_by, Kept, same_nexts, bucket, Named, Done, Sought, Advanced, Rounded, Moved};
 
 use crate::first::first_names;
+use crate::rooms::Rooms;
 use lending::number_at;
 use table::tables::{NextStates, Table};
 
 // Whether the next states of two states have the same names in this layer, under every sign.
 #[tactic(auto, using(counting::proofs::Tallies::all_iff, counting::proofs::Tallies::all_fails), unfolding(crate::specs::Work::same_nexts))]
-fn same_nexts(nexts: &NextStates<'_>, work: &[u16], q: usize, r: usize) -> bool
-    requires room { nexts.now.sizes.states ≤ length work.now }
+fn same_nexts(nexts: &NextStates<'_>, names: &[u16], q: usize, r: usize) -> bool
+    requires room { nexts.now.sizes.states ≤ length names.now }
     requires states { (q < nexts.now.sizes.states) × (r < nexts.now.sizes.states) }
-    ensures { result ≡ same_nexts (unmarked nexts.now) work.now q r }
+    ensures { result ≡ same_nexts (unmarked nexts.now) names.now q r }
 {
     for a in 0..nexts.sizes.signs {
         let left = nexts.next_of(q, a);
         let right = nexts.next_of(r, a);
-        if number_at(work, left) != number_at(work, right) {
+        if number_at(names, left) != number_at(names, right) {
             return false;
         }
     }
@@ -30,14 +31,14 @@ fn same_nexts(nexts: &NextStates<'_>, work: &[u16], q: usize, r: usize) -> bool
 
 // The bucket of a state: by its name and those of its next states in this layer, so that states alike in the next layer have one bucket.
 #[tactic(auto, unfolding(crate::specs::Work::mixed, crate::specs::Work::bucket))]
-fn bucket_of(nexts: &NextStates<'_>, work: &[u16], q: usize) -> usize
-    requires room { 6 * nexts.now.sizes.states ≤ length work.now }
+fn bucket_of(nexts: &NextStates<'_>, names: &[u16], q: usize) -> usize
+    requires room { nexts.now.sizes.states ≤ length names.now }
     requires state { q < nexts.now.sizes.states }
-    ensures { result ≡ bucket (unmarked nexts.now) work.now q }
+    ensures { result ≡ bucket (unmarked nexts.now) names.now q }
 {
-    let mut mixed = number_at(work, q);
+    let mut mixed = number_at(names, q);
     for sign in 0..nexts.sizes.signs {
-        let name = number_at(work, nexts.next_of(q, sign));
+        let name = number_at(names, nexts.next_of(q, sign));
         mixed = (mixed * 2654435761 + name) % 4294967296;
     }
     mixed / 65536 % nexts.sizes.states
@@ -52,104 +53,125 @@ pub enum Seek {
 }
 
 // Looks for the name among the state's own name and the new names in its bucket.
-fn seek_name(nexts: &NextStates<'_>, work: &[u16], q: usize) -> Seek
-    requires room { 6 * nexts.now.sizes.states ≤ length work.now }
+fn seek_name(nexts: &NextStates<'_>, rooms: &Rooms<'_>, q: usize) -> Seek
+    requires room { length rooms.now.names.now ≡ nexts.now.sizes.states }
     requires state { q < nexts.now.sizes.states }
-    requires named { Named nexts.now.sizes.states work.now }
-    requires done { Done (unmarked nexts.now) work.now q }
-    ensures { Sought (unmarked nexts.now) work.now q result }
+    requires named { Named nexts.now.sizes.states rooms.now.names.now }
+    requires done { Done (unmarked nexts.now) (numbers_of rooms.now) q }
+    ensures { Sought (unmarked nexts.now) rooms.now.names.now q result }
 {
-    let n = nexts.sizes.states;
-    let own = number_at(work, q);
+    let own = number_at(rooms.names, q);
     if own == q {
         return Seek::Found(q);
     }
-    if same_nexts(nexts, work, q, own) {
+    if same_nexts(nexts, rooms.names, q, own) {
         return Seek::Found(own);
     }
-    let bucket = bucket_of(nexts, work, q);
-    let mut r = number_at(work, 5 * n + bucket);
+    let bucket = bucket_of(nexts, rooms.names, q);
+    let mut r = number_at(rooms.heads, bucket);
     while r != 0 {
-        if number_at(work, r) == own && same_nexts(nexts, work, q, r) {
+        if number_at(rooms.names, r) == own && same_nexts(nexts, rooms.names, q, r) {
             return Seek::Found(r);
         }
-        r = number_at(work, 2 * n + r);
+        r = number_at(rooms.links, r);
     }
     Seek::New(bucket)
 }
 
 // Names a state in the next layer, and says whether it is a new name; a new name goes to the head of its bucket, and notes the layer of its birth and the name it had.
-fn name_state(nexts: &NextStates<'_>, work: &mut [u16], q: usize, layer: usize) -> bool
-    requires room { 6 * nexts.now.sizes.states ≤ length work.old }
+fn name_state(nexts: &NextStates<'_>, rooms: &mut Rooms<'_>, q: usize, layer: usize) -> bool
+    requires room { length rooms.old.names.now ≡ nexts.now.sizes.states }
     requires state { (q < nexts.now.sizes.states) × (layer < 65536) }
-    requires named { Named nexts.now.sizes.states work.old }
-    requires done { Done (unmarked nexts.now) work.old q }
-    ensures { Advanced (unmarked nexts.now) work.old work.new q layer result }
+    requires named { Named nexts.now.sizes.states rooms.old.names.now }
+    requires done { Done (unmarked nexts.now) (numbers_of rooms.old) q }
+    ensures kept { Kept rooms.old rooms.new }
+    ensures advanced { Advanced (unmarked nexts.now) (numbers_of rooms.old) (numbers_of rooms.new) q layer result }
 {
-    let n = nexts.sizes.states;
-    let found = n + q;
-    match seek_name(nexts, work, q) {
+    match seek_name(nexts, rooms, q) {
         Seek::Found(r) => {
-            work[found] = r as u16;
+            rooms.laters[q] = r as u16;
             false
         }
         Seek::New(bucket) => {
-            let head = 5 * n + bucket;
-            let link = 2 * n + q;
-            let birth = 3 * n + q;
-            let parent = 4 * n + q;
-            work[link] = work[head];
-            work[head] = q as u16;
-            work[found] = q as u16;
-            work[birth] = layer as u16;
-            work[parent] = work[q];
+            rooms.links[q] = rooms.heads[bucket];
+            rooms.heads[bucket] = q as u16;
+            rooms.laters[q] = q as u16;
+            rooms.births[q] = layer as u16;
+            rooms.parents[q] = rooms.names[q];
             true
         }
     }
 }
 
 // One round: the name of every state in the next layer; whether some name is new.
-fn run_round(nexts: &NextStates<'_>, work: &mut [u16], layer: usize) -> bool
-    requires room { 6 * nexts.now.sizes.states ≤ length work.old }
+fn run_round(nexts: &NextStates<'_>, rooms: &mut Rooms<'_>, layer: usize) -> bool
+    requires room { length rooms.old.names.now ≡ nexts.now.sizes.states }
     requires small { layer < 65536 }
-    requires named { Named nexts.now.sizes.states work.old }
-    ensures { Rounded (unmarked nexts.now) work.old work.new layer nexts.now.sizes.states result }
+    requires named { Named nexts.now.sizes.states rooms.old.names.now }
+    ensures kept { Kept rooms.old rooms.new }
+    ensures rounded { Rounded (unmarked nexts.now) (numbers_of rooms.old) (numbers_of rooms.new) layer nexts.now.sizes.states result }
 {
-    let n = nexts.sizes.states;
-    work[5 * n..6 * n].fill(0);
+    rooms.heads.fill(0);
     let mut changed = false;
-    for q in 0..n {
-        let fresh = name_state(nexts, work, q, layer);
+    for q in 0..nexts.sizes.states {
+        let fresh = name_state(nexts, rooms, q, layer);
         changed |= fresh;
     }
     changed
 }
 
 // Takes the names of the next layer over.
-fn advance(work: &mut [u16], n: usize)
-    requires { 2 * n ≤ length work.old }
-    ensures { Moved n n work.old work.new }
+fn advance(rooms: &mut Rooms<'_>)
+    ensures kept { Kept rooms.old rooms.new }
+    ensures moved { Moved (numbers_of rooms.old) (numbers_of rooms.new) }
 {
-    work.copy_within(n..2 * n, 0);
+    let laters = &mut *rooms.laters;
+    rooms.names.copy_from_slice(laters);
 }
 
 // Runs rounds from the first names on until none finds a new name; gives how many did.
-fn settle(nexts: &NextStates<'_>, work: &mut [u16]) -> usize
-    requires room { 6 * nexts.now.sizes.states ≤ length work.old }
-    requires begun { InLayer (machine_in nexts.now.sizes.states nexts.now.sizes.signs nexts.now.sizes.start (take nexts.now.sizes.states work.old) nexts.now.bytes.now) 0 work.old }
-    ensures { Settled (machine_in nexts.now.sizes.states nexts.now.sizes.signs nexts.now.sizes.start (take nexts.now.sizes.states work.old) nexts.now.bytes.now) work.old work.new result }
+fn settle(nexts: &NextStates<'_>, rooms: &mut Rooms<'_>) -> usize
+    requires room { length rooms.old.names.now ≡ nexts.now.sizes.states }
+    requires begun { AtLayer (marked_by nexts.now rooms.old.names.now) 0 rooms.old.names.now rooms.old.births.now rooms.old.parents.now }
+    ensures kept { Kept rooms.old rooms.new }
+    ensures rested { Rested (marked_by nexts.now rooms.old.names.now) rooms.new.names.now rooms.new.births.now rooms.new.parents.now result }
 {
-    let n = nexts.sizes.states;
     let mut i = 0;
     loop {
         let next = i + 1;
-        let changed = run_round(nexts, work, next);
+        let changed = run_round(nexts, rooms, next);
         if !changed {
             return i;
         }
-        advance(work, n);
+        advance(rooms);
         i = next;
     }
+}
+
+// The same, over the lists one by one.
+fn settle_lists(
+    nexts: &NextStates<'_>,
+    names: &mut [u16],
+    laters: &mut [u16],
+    links: &mut [u16],
+    births: &mut [u16],
+    parents: &mut [u16],
+    heads: &mut [u16],
+) -> usize
+    requires room { length names.old ≡ nexts.now.sizes.states }
+    requires sized { Sized (length names.old) laters.old links.old births.old parents.old heads.old }
+    requires begun { AtLayer (marked_by nexts.now names.old) 0 names.old births.old parents.old }
+    ensures { Rested (marked_by nexts.now names.old) names.new births.new parents.new result }
+{
+    let mut rooms = Rooms {
+        names,
+        laters,
+        links,
+        births,
+        parents,
+        heads,
+    };
+    settle(nexts, &mut rooms)
 }
 
 // Finds the classes of the states by layers: the last layer, with births and parents, and r.
@@ -158,5 +180,12 @@ pub fn find_classes(table: &Table<'_>, work: &mut [u16]) -> usize
     ensures { Settled (machine table.now) work.old work.new result }
 {
     first_names(&table.marks, work);
-    settle(&table.nexts, work)
+    let n = table.nexts.sizes.states;
+    let (names, rest) = work.split_at_mut(n);
+    let (laters, rest) = rest.split_at_mut(n);
+    let (links, rest) = rest.split_at_mut(n);
+    let (births, rest) = rest.split_at_mut(n);
+    let (parents, rest) = rest.split_at_mut(n);
+    let (heads, _) = rest.split_at_mut(n);
+    settle_lists(&table.nexts, names, laters, links, births, parents, heads)
 }

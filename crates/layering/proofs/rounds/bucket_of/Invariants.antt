@@ -7,4 +7,4 @@ use Rattle.layering.proofs.rounds.bucket_of.Given as goal
 
 abbrev pub invariant-loop-sign : goal.invariant-loop-sign
 invariant-loop-sign l =
-    (l.mixed ≡ mixed (unmarked l.nexts) l.work l.q l.sign) × (l.mixed < 4294967296)
+    (l.mixed ≡ mixed (unmarked l.nexts) l.names l.q l.sign) × (l.mixed < 4294967296)

@@ -1,19 +1,14 @@
 -- `layering::rounds::find_classes` meets its contract: the rounds from the first names are those of the marks.
-use mathlib.Core.Path.{subst}
-use mathlib.Core.List.{List}
-use Prim.Native.Nat.{ℕ}
-use lib.ListN.{length}
-use Rattle.table.specs.declared.tables.Table.{Table}
-use Rattle.layering.specs.Layered.{Begun}
-use Rattle.layering.proofs.Starting.{begins, settled}
+use Rattle.std.proofs.Common.{rules}
+use Rattle.layering.proofs.Joining.{Parts, parts_begin, parts_rest}
 use Rattle.layering.proofs.rounds.find_classes.Goals as goal
 
--- there are as many marks as states
-begun : (t : Table) {before after : List ℕ} → Begun (length t.marks.bytes.now) t.marks.bytes.now before after → Begun t.nexts.sizes.states t.marks.bytes.now before after
-begun t {before} {after} = subst (λ (n : ℕ). Begun n t.marks.bytes.now before after) t.sized
-
-pub settle-requires-clause-begun : goal.settle-requires-clause-begun
-settle-requires-clause-begun c = begins _ _ _ _ _ _ _ (begun c.args.table.now c.first_names.ensures)
+pub settle_lists-requires-clause-begun : goal.settle_lists-requires-clause-begun
+settle_lists-requires-clause-begun c =
+    let p : Parts c.args.table.now.nexts.sizes.states c.first_names.new.work c.split_at_mut-names.result.0.now c.split_at_mut-laters.result.0.now c.split_at_mut-links.result.0.now c.split_at_mut-births.result.0.now c.split_at_mut-parents.result.0.now c.split_at_mut-heads.result.0.now c.split_at_mut-heads.result.1.now = search rules in
+    parts_begin c.args.table.now c.first_names.ensures p
 
 pub returns : goal.returns
-returns c = settled _ _ _ _ _ _ _ (begun c.args.table.now c.first_names.ensures) _ _ c.settle.ensures
+returns c =
+    let p : Parts c.args.table.now.nexts.sizes.states c.first_names.new.work c.split_at_mut-names.result.0.now c.split_at_mut-laters.result.0.now c.split_at_mut-links.result.0.now c.split_at_mut-births.result.0.now c.split_at_mut-parents.result.0.now c.split_at_mut-heads.result.0.now c.split_at_mut-heads.result.1.now = search rules in
+    parts_rest c.args.table.now c.first_names.ensures p (search rules) (search rules) c.settle_lists.ensures

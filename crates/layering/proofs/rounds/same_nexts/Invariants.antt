@@ -11,4 +11,4 @@ use Rattle.layering.proofs.rounds.same_nexts.Given as goal
 abbrev pub invariant-loop-a : goal.invariant-loop-a
 invariant-loop-a l =
     let M : Machine = unmarked l.nexts in
-    (b : ℕ) → b < l.a → eqb (at l.work (M.next l.q b)) (at l.work (M.next l.r b)) ≡ true
+    (b : ℕ) → b < l.a → eqb (at l.names (M.next l.q b)) (at l.names (M.next l.r b)) ≡ true

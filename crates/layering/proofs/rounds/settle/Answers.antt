@@ -1,43 +1,42 @@
 -- `layering::rounds::settle` meets its contract.
-use mathlib.Core.Path.{ap}
+use mathlib.Core.Path.{ap, ◌∙◌}
 use mathlib.Core.Bool.{not}
-use lib.ListN.{take}
-use Rattle.table.specs.Encoding.{machine_in}
-use Rattle.layering.proofs.Descent.{in_layer_named, round_small, round_settles, round_unsettled, round_deepens}
+use lib.ListN.{length}
+use Rattle.std.proofs.Common.{rules}
 use native.Mathlib.Omega.{arith}
+use Rattle.automaton.proofs.Alikes.{layer-length}
+use Rattle.layering.specs.Work.{marked_by}
+use Rattle.layering.proofs.Descent.{layer_named, round_small, round_rests, round_unsettled, round_deepens}
 use Rattle.layering.proofs.rounds.settle.Goals as goal
 
-pub loop-n-preserved : goal.loop-n-preserved
-loop-n-preserved c =
-    let z = c.args.nexts.now.sizes in
-    let l = c.loop-n in
-    round_deepens z.states z.signs z.start (take z.states c.args.work.now) c.args.nexts.now.bytes.now c.args.nexts.now.held c.args.work.now l.work l.i c.requires.room l.invariant _ _ _ c.if-not-changed.false c.run_round-changed.ensures c.advance.ensures
-
 pub overflow_add-next : goal.overflow_add-next
-overflow_add-next c =
-    let z = c.args.nexts.now.sizes in
-    let l = c.loop-n in
-    omega (arith, round_small z.states z.signs z.start (take z.states c.args.work.now) c.args.nexts.now.bytes.now c.args.nexts.now.held c.args.work.now l.work l.i c.requires.room l.invariant)
+overflow_add-next c = omega (arith, round_small c.args.nexts.now c.args.rooms.now.names.now c.loop-i.invariant.layered)
+
+pub run_round-changed-requires-clause-room : goal.run_round-changed-requires-clause-room
+run_round-changed-requires-clause-room c =
+    ap length c.loop-i.invariant.layered.named ∙ layer-length (marked_by c.args.nexts.now c.args.rooms.now.names.now) c.loop-i.i
 
 pub run_round-changed-requires-clause-small : goal.run_round-changed-requires-clause-small
-run_round-changed-requires-clause-small c =
-    let z = c.args.nexts.now.sizes in
-    let l = c.loop-n in
-    omega (arith, round_small z.states z.signs z.start (take z.states c.args.work.now) c.args.nexts.now.bytes.now c.args.nexts.now.held c.args.work.now l.work l.i c.requires.room l.invariant)
+run_round-changed-requires-clause-small c = round_small c.args.nexts.now c.args.rooms.now.names.now c.loop-i.invariant.layered
 
 pub run_round-changed-requires-clause-named : goal.run_round-changed-requires-clause-named
 run_round-changed-requires-clause-named c =
-    let z = c.args.nexts.now.sizes in
-    in_layer_named (machine_in z.states z.signs z.start (take z.states c.args.work.now) c.args.nexts.now.bytes.now) c.loop-n.i c.loop-n.work c.loop-n.invariant.1
+    layer_named (marked_by c.args.nexts.now c.args.rooms.now.names.now) c.loop-i.i _ c.loop-i.invariant.layered.named
 
-pub returns-then-not-changed : goal.returns-then-not-changed
-returns-then-not-changed c =
-    let z = c.args.nexts.now.sizes in
-    let l = c.loop-n in
-    round_settles z.states z.signs z.start (take z.states c.args.work.now) c.args.nexts.now.bytes.now c.args.nexts.now.held c.args.work.now l.work l.i c.requires.room l.invariant _ _ (ap not c.if-not-changed.true) c.run_round-changed.ensures
+pub returns-then-not-changed-clause-rested : goal.returns-then-not-changed-clause-rested
+returns-then-not-changed-clause-rested c =
+    let round = c.run_round-changed in
+    round_rests c.args.nexts.now c.args.rooms.now.names.now round.ensures.rounded round.new.rooms.sized.long-laters c.loop-i.invariant.layered (ap not c.if-not-changed.true)
 
-pub loop-n-smaller : goal.loop-n-smaller
-loop-n-smaller c =
-    let z = c.args.nexts.now.sizes in
-    let l = c.loop-n in
-    omega (arith, round_unsettled z.states z.signs z.start (take z.states c.args.work.now) c.args.nexts.now.bytes.now c.args.nexts.now.held c.args.work.now l.work l.i c.requires.room l.invariant _ _ c.if-not-changed.false c.run_round-changed.ensures)
+pub loop-i-smaller : goal.loop-i-smaller
+loop-i-smaller c =
+    let round = c.run_round-changed in
+    omega (arith, round_unsettled c.args.nexts.now c.args.rooms.now.names.now round.ensures.rounded round.new.rooms.sized.long-laters c.loop-i.invariant.layered c.if-not-changed.false)
+
+pub loop-i-preserved : goal.loop-i-preserved
+loop-i-preserved c =
+    let round = c.run_round-changed in
+    record {
+      kept = search rules;
+      layered = round_deepens c.args.nexts.now c.args.rooms.now.names.now round.ensures.rounded round.new.rooms.sized.long-laters c.loop-i.invariant.layered _ c.if-not-changed.false c.advance.ensures.moved;
+    }

@@ -1,18 +1,15 @@
--- What the loop of `layering::rounds::settle` keeps: the work slice holds layer i, and all beyond the first 6 × n numbers is as it was.
-use Prim.Native.Nat.{ℕ, ◌*◌, ◌≤◌, ◌-◌}
-use mathlib.Core.Path.{◌≡◌}
-use lib.ListN.{length, take}
-use Rattle.counting.specs.Lists.{at}
+-- What the loop of `layering::rounds::settle` keeps: the lists hold layer i.
+use Prim.Native.Nat.{◌-◌}
 use Rattle.automaton.specs.Layers.{rounds}
-use Rattle.table.specs.Encoding.{machine_in}
-use Rattle.layering.specs.Layered.{InLayer}
+use Rattle.layering.specs.Work.{marked_by, Kept}
+use Rattle.layering.specs.Layered.{AtLayer}
 use Rattle.layering.proofs.rounds.settle.Given as goal
 
-abbrev pub invariant-loop-n : goal.invariant-loop-n
-invariant-loop-n l =
-    (length l.work ≡ length l.initial.work)
-    × InLayer (machine_in l.nexts.sizes.states l.nexts.sizes.signs l.nexts.sizes.start (take l.nexts.sizes.states l.initial.work) l.nexts.bytes.now) l.i l.work
-    × ((j : ℕ) → 6 * l.nexts.sizes.states ≤ j → at l.work j ≡ at l.initial.work j)
+abbrev pub invariant-loop-i : goal.invariant-loop-i
+invariant-loop-i l = record {
+  kept : Kept l.initial.rooms l.rooms;
+  layered : AtLayer (marked_by l.nexts l.initial.rooms.names.now) l.i l.rooms.names.now l.rooms.births.now l.rooms.parents.now;
+}
 
-abbrev pub decreases-loop-n : goal.decreases-loop-n
-decreases-loop-n l = rounds (machine_in l.nexts.sizes.states l.nexts.sizes.signs l.nexts.sizes.start (take l.nexts.sizes.states l.initial.work) l.nexts.bytes.now) - l.i
+abbrev pub decreases-loop-i : goal.decreases-loop-i
+decreases-loop-i l = rounds (marked_by l.nexts l.initial.rooms.names.now) - l.i
