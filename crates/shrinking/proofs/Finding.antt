@@ -141,10 +141,10 @@ module _ (t : Table) where
   )
 
   -- the reached states marked, their classes flagged and numbered
-  module _ (before reached flags numbers listed : List ℕ) (count : ℕ) (f : Found N before reached) (d : Flagged reached (classes M) n flags) (u : Numbered flags n numbers listed count) (long : length flags ≡ n) where
+  module _ (reached flags numbers listed : List ℕ) (count : ℕ) (f : Found N reached) (d : Flagged reached (classes M) n flags) (u : Numbered flags n numbers listed count) (long : length flags ≡ n) where
     marked_reached : (q : ℕ) → q < n → eqb (at reached q) 1 ≡ get_or (reachable M) q false
     marked_reached q l =
-        let e = f.reached q l in
+        let e = f.marks q l in
         let g = reachable_iff M lawful q l in
         let b = reached_bare q in
         same_test (eqb (at reached q) 1) (get_or (reachable M) q false)
@@ -221,17 +221,17 @@ module _ (t : Table) where
 
   -- what all this leaves in the slice
   module _ (w₀ w₁ w₂ : List ℕ) (takes looked : ℕ) (s : StartedIn (length marks) M.signs marks w₀ w₁) (r : RanIn N 65535 w₁ w₂ takes looked) (room : 8 * n ≤ length w₀) where
-    pub rows_found : (rest before reached flags numbers listed : List ℕ) (count : ℕ) → rest ≡ drop (4 * n) w₂
-        → Found N before reached → Flagged reached (lent_in rest) (length reached) flags → Numbered flags (length flags) numbers listed count
+    pub rows_found : (rest reached flags numbers listed : List ℕ) (count : ℕ) → rest ≡ drop (4 * n) w₂
+        → Found N reached → Flagged reached (lent_in rest) (length reached) flags → Numbered flags (length flags) numbers listed count
         → length reached ≡ n → length flags ≡ n → length numbers ≡ n → length listed ≡ n
         → RowsFound M w₀ ((reached ++ (flags ++ (numbers ++ listed))) ++ rest) count takes
-    rows_found rest before reached flags numbers listed count e f flagged numbered lr lf ln ll = record {
+    rows_found rest reached flags numbers listed count e f flagged numbered lr lf ln ll = record {
       long = omega (arith, length-append front rest, front_long, ap length e, length-drop (4 * n) w₂, r.long, s.long);
-      counted = count_is before reached flags numbers listed count f d u lf;
+      counted = count_is reached flags numbers listed count f d u lf;
       takes = takes_found w₀ w₁ w₂ takes looked s r;
       rows = rows_there;
       classes = classes_there;
-      writable = rw (rows_there, numbers_there, classes_there) (writable before reached flags numbers listed count f d u lf ln);
+      writable = rw (rows_there, numbers_there, classes_there) (writable reached flags numbers listed count f d u lf ln);
       beyond = λ i l. agree_beyond (4 * n) after w₂ back i (omega arith) ∙ r.beyond i l ∙ (started s).beyond i l;
     }
       where
@@ -256,10 +256,10 @@ module _ (t : Table) where
         rows_there : rows_in n count after ≡ rows M
         rows_there =
             let same : after ≡ (reached ++ (flags ++ numbers)) ++ (listed ++ rest) = simp append_assoc in
-            let few : count ≤ n = omega (arith, count_is before reached flags numbers listed count f d u lf, rows_most M lawful) in
+            let few : count ≤ n = omega (arith, count_is reached flags numbers listed count f d u lf, rows_most M lawful) in
             ap (rows_in n count) same
             ∙ middle (reached ++ (flags ++ numbers)) listed rest (3 * n) count (simp length-append (omega arith)) (omega arith)
-            ∙ rows_are before reached flags numbers listed count f d u lf
+            ∙ rows_are reached flags numbers listed count f d u lf
 
         numbers_there : numbers_in n after ≡ numbers
         numbers_there =

@@ -7,47 +7,38 @@ use Rattle.counting.specs.Counts.{any, those, place}
 use Rattle.automaton.specs.Machine.{Machine}
 use Rattle.automaton.specs.Words.{Reached}
 
-abbrev pub reached_at : List ℕ → ℕ → ℕ
-reached_at work q = at work q
-
 -- the state is a next state of q under one of the first a signs
 unfoldable pub leads_to : Machine → ℕ → ℕ → ℕ → Bool
 leads_to M q a x = any a (λ b. eqb (M.next q b) x)
 
 -- The next states of q under the first a signs are marked; whether one was not before.
 pub record Spread (M : Machine) (q a : ℕ) (before after : List ℕ) (new : Bool) : Type 0 where
-  pub long : length after ≡ length before
-  pub marks : (x : ℕ) → x < M.size → reached_at after x ≡ pick (leads_to M q a x) 1 (reached_at before x)
-  pub quiet : new ≡ false → (x : ℕ) → x < M.size → reached_at after x ≡ reached_at before x
-  pub busy : new ≡ true → (x : ℕ) × (x < M.size) × (reached_at before x ≡ 0) × (reached_at after x ≡ 1)
-  pub beyond : (i : ℕ) → M.size ≤ i → at after i ≡ at before i
+  pub marks : (x : ℕ) → x < M.size → at after x ≡ pick (leads_to M q a x) 1 (at before x)
+  pub quiet : new ≡ false → (x : ℕ) → x < M.size → at after x ≡ at before x
+  pub busy : new ≡ true → (x : ℕ) × (x < M.size) × (at before x ≡ 0) × (at after x ≡ 1)
 
 -- The same where q is marked; no change where it is not.
 pub record SpreadMarked (M : Machine) (q : ℕ) (before after : List ℕ) (new : Bool) : Type 0 where
-  pub marked : reached_at before q ≢ 0 → Spread M q M.signs before after new
-  pub unmarked : reached_at before q ≡ 0 → (after ≡ before) × (new ≡ false)
+  pub marked : at before q ≢ 0 → Spread M q M.signs before after new
+  pub unmarked : at before q ≡ 0 → (after ≡ before) × (new ≡ false)
 
 -- Every mark is 0 or 1, the start is marked, and a marked state is reached.
-pub record Sound (M : Machine) (work : List ℕ) : Type 0 where
-  pub small : (x : ℕ) → x < M.size → reached_at work x ≤ 1
-  pub start : reached_at work M.start ≡ 1
-  pub reached : (x : ℕ) → x < M.size → reached_at work x ≡ 1 → Reached M x
+pub record Sound (M : Machine) (reached : List ℕ) : Type 0 where
+  pub small : (x : ℕ) → x < M.size → at reached x ≤ 1
+  pub start : at reached M.start ≡ 1
+  pub only : (x : ℕ) → x < M.size → at reached x ≡ 1 → Reached M x
 
 -- What a sweep leaves: marks are only set; none was set exactly when it says so, and then the next states of every marked state are marked.
 pub record Swept (M : Machine) (before after : List ℕ) (new : Bool) : Type 0 where
-  pub long : length after ≡ length before
   pub sound : Sound M after
-  pub kept : (x : ℕ) → x < M.size → reached_at before x ≡ 1 → reached_at after x ≡ 1
-  pub quiet : new ≡ false → (x a : ℕ) → x < M.size → a < M.signs → reached_at after x ≡ 1 → reached_at after (M.next x a) ≡ 1
-  pub busy : new ≡ true → (x : ℕ) × (x < M.size) × (reached_at before x ≡ 0) × (reached_at after x ≡ 1)
-  pub beyond : (i : ℕ) → M.size ≤ i → at after i ≡ at before i
+  pub kept : (x : ℕ) → x < M.size → at before x ≡ 1 → at after x ≡ 1
+  pub quiet : new ≡ false → (x a : ℕ) → x < M.size → a < M.signs → at after x ≡ 1 → at after (M.next x a) ≡ 1
+  pub busy : new ≡ true → (x : ℕ) × (x < M.size) × (at before x ≡ 0) × (at after x ≡ 1)
 
--- The marked states are those that are reached.
-pub record Found (M : Machine) (before after : List ℕ) : Type 0 where
-  pub long : length after ≡ length before
-  pub small : (x : ℕ) → x < M.size → reached_at after x ≤ 1
-  pub reached : (x : ℕ) → x < M.size → (reached_at after x ≡ 1) ↔ Reached M x
-  pub beyond : (i : ℕ) → M.size ≤ i → at after i ≡ at before i
+-- The marked states are those that are reached; the others have 0.
+pub record Found (M : Machine) (reached : List ℕ) : Type 0 where
+  pub small : (x : ℕ) → x < M.size → at reached x ≤ 1
+  pub marks : (x : ℕ) → x < M.size → (at reached x ≡ 1) ↔ Reached M x
 
 -- a class that holds one of the first x states that are marked
 unfoldable pub holds : List ℕ → List ℕ → ℕ → ℕ → Bool
