@@ -1,14 +1,16 @@
 -- The rows in the work slice: the classes by full splitting from fresh lists, and what marking, flagging and numbering leave. Rests on demand 3 and on `RowsOf`.
-use mathlib.Core.Path.{◌≡◌, refl, sym, ap, ap₂, subst, ◌∙◌}
+use mathlib.Core.Path.{◌≡◌, refl, sym, ap, ap₂, subst, subst₂, ◌∙◌}
 use mathlib.Core.Logic.{◌↔◌}
 use mathlib.Core.Bool.{Bool, true, false, ◌&&◌}
-use mathlib.Core.List.{List, [], ◌∷◌}
+use mathlib.Core.List.{List, [], ◌∷◌, ◌++◌}
 use Prim.Native.Nat.{ℕ, ◌+◌, ◌-◌, ◌*◌, ◌≤◌, ◌<◌}
 use native.Mathlib.Nat.{mul_comm, mul-le-mul_left}
 use native.Mathlib.Omega.{arith}
 use borrow.Author.Tests.{eq-eqb, eqb-true}
 use lib.Dec.{eqb}
-use lib.ListN.{length, get_or}
+use lib.ListN.{length, get_or, take, drop, length-append, length-drop}
+use lib.Seq.{get_or-drop, take_all}
+use Rattle.std.proofs.lemmas.List.{append_assoc, drop_at, drop-drop, take-append-le}
 use Rattle.counting.specs.Lists.{at}
 use Rattle.counting.specs.Least.{pick}
 use Rattle.counting.specs.Counts.{any, place}
@@ -17,9 +19,10 @@ use Rattle.counting.proofs.Tallies.{any_iff, any_cong, count_most}
 use Rattle.counting.proofs.Thoses.{those_cong}
 use Rattle.automaton.specs.Machine.{Machine, Lawful}
 use Rattle.automaton.specs.Words.{Reached}
-use Rattle.automaton.specs.Layers.{classes, class_count}
+use Rattle.automaton.specs.Layers.{rounds, classes, class_count}
 use Rattle.automaton.specs.Reach.{reachable}
 use Rattle.automaton.specs.Quotient.{rows, rows_for}
+use Rattle.automaton.proofs.Alikes.{layer-length}
 use Rattle.automaton.proofs.Walks.{steps_next, same_next}
 use Rattle.automaton.proofs.Settling.{classes-in, classes_same, classes_member}
 use Rattle.automaton.proofs.Reaching.{reachable_iff}
@@ -30,17 +33,15 @@ use Rattle.refining.specs.Fresh.{fresh}
 use Rattle.refining.specs.Run.{run_lists, run_takes, all_lists, all_takes, total}
 use Rattle.refining.proofs.Freshness.{fresh-formed}
 use Rattle.refining.proofs.Demand.{whole_takes, demand_3}
-use Rattle.lending.specs.Memory.{cleared}
-use Rattle.lending.proofs.Memories.{cleared-length, cleared_at, cleared_beyond}
-use Rattle.table.specs.Encoding.{machine_in, Held}
+use Rattle.table.specs.Tables.{machine, unmarked}
+use Rattle.table.specs.declared.tables.Table.{Table}
 use Rattle.table.proofs.Handing.{held_lawful}
-use Rattle.splitting.specs.Work.{lists_in, class_in}
+use Rattle.splitting.specs.Work.{lists_in}
 use Rattle.splitting.specs.Starting.{StartedIn}
 use Rattle.splitting.specs.Running.{RanIn}
-use Rattle.counting.proofs.Parts.{part_at, part_long, part_is}
 use Rattle.splitting.proofs.RunWays.{lists_bare, takes_bare}
-use Rattle.shrinking.specs.Reached.{flag_at, class_at, number_at, row_at, holds, flagged_below, Found, Flagged, Numbered}
-use Rattle.shrinking.specs.Written.{rows_in, classes_in, Writable}
+use Rattle.shrinking.specs.Reached.{holds, flagged_below, Found, Flagged, Numbered}
+use Rattle.shrinking.specs.Written.{WritableBy, rows_in, numbers_in, classes_in}
 use Rattle.shrinking.specs.Found.{RowsFound}
 use Rattle.shrinking.proofs.Promises.{rows_most}
 
@@ -54,15 +55,31 @@ unfolding pick
 eqb-pick true = refl
 eqb-pick false = refl
 
-module _ (n k start : ℕ) (marks nexts : List ℕ) (held : Held n k start nexts) where
+-- a list in the middle of lists
+middle : (front xs back : List ℕ) (m k : ℕ) → length front ≡ m → k ≤ length xs → take k (drop m (front ++ (xs ++ back))) ≡ take k xs
+middle front xs back m k e l = ap (take k) (drop_at front (xs ++ back) m e) ∙ take-append-le k xs back l
+
+-- lists that agree from a place on
+agree_beyond : (m : ℕ) (v w : List ℕ) → drop m v ≡ drop m w → (i : ℕ) → m ≤ i → at v i ≡ at w i
+agree_beyond m v w e i l =
+    let f : m + (i - m) ≡ i = omega arith in
+    ap (at v) (sym f) ∙ sym (get_or-drop m v (i - m) 0) ∙ ap (λ (xs : List ℕ). at xs (i - m)) e ∙ get_or-drop m w (i - m) 0 ∙ ap (at w) f
+
+module _ (t : Table) where
+  abbrev n : ℕ
+  n = t.nexts.sizes.states
+
+  abbrev marks : List ℕ
+  marks = t.marks.bytes.now
+
   abbrev M : Machine
-  M = machine_in n k start marks nexts
+  M = machine t
 
   abbrev N : Machine
-  N = machine_in n k start [] nexts
+  N = unmarked t.nexts
 
   lawful : Lawful M
-  lawful = held_lawful marks held
+  lawful = held_lawful marks t.nexts.held
 
   -- a full splitting fits in the largest budget
   whole_fits : whole_takes M ≤ 65535
@@ -71,7 +88,7 @@ module _ (n k start : ℕ) (marks nexts : List ℕ) (held : Held n k start nexts
       let m : ℕ = class_count n (classes M) in
       let few : m ≤ n = count_most n (λ q. eqb (at (classes M) q) q) in
       let less : m - 1 ≤ n = omega arith in
-      omega (arith, mul-le-mul_left k less, mul_comm k n, held.range.nexts_most)
+      omega (arith, mul-le-mul_left M.signs less, mul_comm M.signs n, t.nexts.held.range.nexts_most)
 
   whole_lists : (b : ℕ) → whole_takes M ≤ b → (run_lists M b (fresh M)).class ≡ classes M
   unfolding all_lists total
@@ -81,151 +98,175 @@ module _ (n k start : ℕ) (marks nexts : List ℕ) (held : Held n k start nexts
   unfolding all_takes total
   whole_count b l = omega (arith, (demand_3 M lawful (b ∷ [])).takes)
 
-  pub started_formed : (before after : List ℕ) → StartedIn n k marks before after → WellFormed n k (lists_in n after)
-  started_formed before after s = subst (WellFormed n k) (sym (s.lists start nexts)) (fresh-formed M lawful)
+  -- the lists are fresh, of as many states as the table has
+  started : {before after : List ℕ} → StartedIn (length marks) M.signs marks before after → StartedIn n M.signs marks before after
+  started {before} {after} s = subst (λ (m : ℕ). StartedIn m M.signs marks before after) t.sized s
+
+  pub started_formed : (before after : List ℕ) → StartedIn (length marks) M.signs marks before after → WellFormed n M.signs (lists_in n after)
+  started_formed before after s = subst (WellFormed n M.signs) (sym ((started s).lists M.start t.nexts.bytes.now)) (fresh-formed M lawful)
+
+  -- the classes in what stands behind the lists of the rows
+  abbrev lent_in : List ℕ → List ℕ
+  lent_in rest = take (3 * n - 2 * n) (drop (2 * n) rest)
+
+  lent_is : (work : List ℕ) → lent_in (drop (4 * n) work) ≡ classes_in n work
+  lent_is work = ap₂ take (omega arith) (drop-drop (2 * n) (4 * n) work ∙ ap (λ (m : ℕ). drop m work) (omega arith))
 
   -- the splitting has found the classes
-  module _ (w₀ w₁ w₂ : List ℕ) (takes looked : ℕ) (s : StartedIn n k marks w₀ w₁) (r : RanIn N 65535 w₁ w₂ takes looked) where
-    pub classes_found : class_in n w₂ ≡ classes M
+  module _ (w₀ w₁ w₂ : List ℕ) (takes looked : ℕ) (s : StartedIn (length marks) M.signs marks w₀ w₁) (r : RanIn N 65535 w₁ w₂ takes looked) where
+    fresh_lists : lists_in n w₁ ≡ fresh M
+    fresh_lists = (started s).lists M.start t.nexts.bytes.now
+
+    pub classes_found : (lists_in n w₂).class ≡ classes M
     classes_found =
-        ap (λ (t : Split). t.class) (r.lists ∙ ap (run_lists N 65535) (s.lists start nexts) ∙ lists_bare n k start marks nexts 65535 (fresh M))
+        ap (λ (l : Split). l.class) (r.lists ∙ ap (run_lists N 65535) fresh_lists ∙ lists_bare n M.signs M.start marks t.nexts.bytes.now 65535 (fresh M))
         ∙ whole_lists 65535 whole_fits
 
     takes_found : takes ≡ whole_takes M
     takes_found =
-        r.counts.0 ∙ ap (run_takes N 65535) (s.lists start nexts) ∙ takes_bare n k start marks nexts 65535 (fresh M) ∙ whole_count 65535 whole_fits
+        r.counts.0 ∙ ap (run_takes N 65535) fresh_lists ∙ takes_bare n M.signs M.start marks t.nexts.bytes.now 65535 (fresh M) ∙ whole_count 65535 whole_fits
+
+    -- they stand behind the lists of the rows
+    classes_lent : (rest : List ℕ) → rest ≡ drop (4 * n) w₂ → lent_in rest ≡ classes M
+    classes_lent rest e = ap lent_in e ∙ lent_is w₂ ∙ classes_found
+
+    pub classed : (rest : List ℕ) → rest ≡ drop (4 * n) w₂ → (q : ℕ) → q < n → at (lent_in rest) q < n
+    classed rest e q l = rw (classes_lent rest e) (classes-in M lawful q l)
 
   -- words lead to the same states whatever the marks
   reached_bare : (q : ℕ) → Reached N q ↔ Reached M q
   reached_bare q = (
-    (λ r. record { by = r.by; word = r.word; leads = steps_next M N (λ p a. refl) start r.by ∙ r.leads }),
-    (λ r. record { by = r.by; word = r.word; leads = steps_next N M (λ p a. refl) start r.by ∙ r.leads }),
+    (λ r. record { by = r.by; word = r.word; leads = steps_next M N (λ p a. refl) M.start r.by ∙ r.leads }),
+    (λ r. record { by = r.by; word = r.word; leads = steps_next N M (λ p a. refl) M.start r.by ∙ r.leads }),
   )
 
-  -- from the slice that has the classes: its front cleared, the reached states marked, their classes flagged and numbered
-  module _ (w₂ w₃ w₄ : List ℕ) (room : 8 * n ≤ length w₂) (found : class_in n w₂ ≡ classes M) (clear : w₃ ≡ cleared (2 * n) w₂) (f : Found N w₃ w₄) where
-    pub marked_long : length w₄ ≡ length w₂
-    marked_long = f.long ∙ ap length clear ∙ cleared-length (2 * n) w₂ (omega arith)
-
-    pub marked_beyond : (i : ℕ) → 2 * n ≤ i → at w₄ i ≡ at w₂ i
-    marked_beyond i l = f.beyond i (omega arith) ∙ ap (λ (w : List ℕ). at w i) clear ∙ cleared_beyond (2 * n) w₂ i l
-
-    pub unflagged : (c : ℕ) → c < n → flag_at n w₄ c ≡ 0
-    unflagged c l = f.beyond (n + c) (omega arith) ∙ ap (λ (w : List ℕ). at w (n + c)) clear ∙ cleared_at (2 * n) w₂ (n + c) (omega arith)
-
-    pub marked_class : (q : ℕ) → q < n → class_at n w₄ q ≡ at (classes M) q
-    marked_class q l = marked_beyond (6 * n + q) (omega arith) ∙ sym (part_at n (6 * n) w₂ q l) ∙ ap (λ (cs : List ℕ). at cs q) found
-
-    pub marked_classed : (q : ℕ) → q < n → class_at n w₄ q < n
-    marked_classed q l = rw (marked_class q l) (classes-in M lawful q l)
-
-    marked_reached : (q : ℕ) → q < n → eqb (at w₄ q) 1 ≡ get_or (reachable M) q false
+  -- the reached states marked, their classes flagged and numbered
+  module _ (reached flags numbers listed : List ℕ) (count : ℕ) (f : Found N reached) (d : Flagged reached (classes M) n flags) (u : Numbered flags n numbers listed count) (long : length flags ≡ n) where
+    marked_reached : (q : ℕ) → q < n → eqb (at reached q) 1 ≡ get_or (reachable M) q false
     marked_reached q l =
-        let e = f.reached q l in
+        let e = f.marks q l in
         let g = reachable_iff M lawful q l in
-        let t = reached_bare q in
-        same_test (eqb (at w₄ q) 1) (get_or (reachable M) q false)
-        ((λ h. g.1 (t.0 (e.0 (eqb-true (at w₄ q) 1 h)))), (λ h. eq-eqb (at w₄ q) 1 (e.1 (t.1 (g.0 h)))))
+        let b = reached_bare q in
+        same_test (eqb (at reached q) 1) (get_or (reachable M) q false)
+        ((λ h. g.1 (b.0 (e.0 (eqb-true (at reached q) 1 h)))), (λ h. eq-eqb (at reached q) 1 (e.1 (b.1 (g.0 h)))))
 
-    module _ (w₅ w₆ : List ℕ) (count : ℕ) (d : Flagged n n w₄ w₅) (u : Numbered n n w₅ w₆ count) where
-      flag_is : (c : ℕ) → c < n → eqb (flag_at n w₅ c) 1 ≡ any n (λ q. get_or (reachable M) q false && eqb (at (classes M) q) c)
-      unfolding holds
-      flag_is c l =
-          ap (λ (x : ℕ). eqb x 1) (d.flags c l)
-          ∙ eqb-pick (holds n w₄ n c)
-          ∙ any_cong n _ _ (λ q k. ap₂ (λ (t : Bool) (x : ℕ). t && eqb x c) (marked_reached q k) (marked_class q k))
+    flag_is : (c : ℕ) → c < n → eqb (at flags c) 1 ≡ any n (λ q. get_or (reachable M) q false && eqb (at (classes M) q) c)
+    unfolding holds
+    flag_is c l =
+        ap (λ (x : ℕ). eqb x 1) (d c (omega arith))
+        ∙ eqb-pick (holds reached (classes M) n c)
+        ∙ any_cong n _ _ (λ q k. ap (λ (b : Bool). b && eqb (at (classes M) q) c) (marked_reached q k))
 
-      rows_flagged : flagged_below n w₅ n ≡ rows M
-      unfolding flagged_below rows rows_for
-      rows_flagged = those_cong n _ _ flag_is
+    rows_flagged : flagged_below flags n ≡ rows M
+    unfolding flagged_below rows rows_for
+    rows_flagged = those_cong n _ _ flag_is
 
-      count_is : count ≡ length (rows M)
-      count_is = u.counted ∙ ap length rows_flagged
+    count_is : count ≡ length (rows M)
+    count_is = u.counted ∙ ap length rows_flagged
 
-      long : length w₆ ≡ length w₂
-      long = u.long ∙ d.long ∙ marked_long
+    rows_are : take count listed ≡ rows M
+    rows_are = u.listed ∙ rows_flagged
 
-      beyond : (i : ℕ) → 4 * n ≤ i → at w₆ i ≡ at w₂ i
-      beyond i l = u.beyond i l ∙ d.beyond i (omega arith) ∙ marked_beyond i (omega arith)
+    -- the class of a reached state has its row's number
+    number_is : (q : ℕ) → q < n → Reached M q → at numbers (at (classes M) q) ≡ place (rows M) (at (classes M) q)
+    number_is q l r =
+        let c : ℕ = at (classes M) q in
+        let h : c < n = classes-in M lawful q l in
+        let e : any n (λ p. get_or (reachable M) p false && eqb (at (classes M) p) c) ≡ true
+        = (any_iff n _).1 (q, l, ap₂ ◌&&◌ ((reachable_iff M lawful q l).1 r) (eq-eqb c c refl)) in
+        u.places c h (eqb-true (at flags c) 1 (flag_is c h ∙ e)) ∙ ap (λ (xs : List ℕ). place xs c) rows_flagged
 
-      most : count ≤ n
-      most = omega (arith, count_is, rows_most M lawful)
+    -- the class of a next state of a row is that of a reached state
+    next_reached : (i a : ℕ) → i < length (rows M) → a < M.signs → (q : ℕ) × (q < n) × Reached M q × (at (classes M) (M.next (at (rows M) i) a) ≡ at (classes M) q)
+    next_reached i a l m =
+        let (q, h, r, e) = (rows_of M lawful).only i l in
+        let c : ℕ = at (classes M) q in
+        let inside : c < n = classes-in M lawful q h in
+        let here : M.next q a < n = lawful.next_in q a h m in
+        let there : M.next c a < n = lawful.next_in c a inside m in (
+          M.next q a,
+          here,
+          reached_next M q a m r,
+          ap (λ (x : ℕ). at (classes M) (M.next x a)) (sym e) ∙ (classes_same M lawful (M.next c a) (M.next q a) there here).1 (same_next M a m (classes_member M lawful q h)),
+        )
 
-      row_is : (i : ℕ) → i < count → row_at n w₆ i ≡ at (rows M) i
-      row_is i l = u.listed i l ∙ ap (λ (xs : List ℕ). at xs i) rows_flagged
+    row_state : (i : ℕ) → i < length (rows M) → at (rows M) i < n
+    row_state i l =
+        let (q, h, r, e) = (rows_of M lawful).only i l in
+        subst (λ (c : ℕ). c < n) e (classes-in M lawful q h)
 
-      rows_are : rows_in n count w₆ ≡ rows M
-      rows_are = part_is count (3 * n) w₆ (rows M) (omega (arith, long, most)) (sym count_is) row_is
+    next_number : (i a : ℕ) → i < length (rows M) → a < M.signs → at numbers (at (classes M) (M.next (at (rows M) i) a)) ≡ place (rows M) (at (classes M) (M.next (at (rows M) i) a))
+    next_number i a l m =
+        let (q, h, r, e) = next_reached i a l m in
+        subst (λ (c : ℕ). at numbers c ≡ place (rows M) c) (sym e) (number_is q h r)
 
-      class_is : (q : ℕ) → q < n → class_at n w₆ q ≡ at (classes M) q
-      class_is q l = beyond (6 * n + q) (omega arith) ∙ sym (part_at n (6 * n) w₂ q l) ∙ ap (λ (cs : List ℕ). at cs q) found
+    some : 0 < length (rows M)
+    some = let (i, l, e) = (rows_of M lawful).here M.start lawful.start-in (reached_start M) in omega arith
 
-      classes-are : classes_in n w₆ ≡ classes M
-      classes-are =
-          part_is n (6 * n) w₆ (classes M) (omega (arith, long)) (ap length (sym found) ∙ part_long n (6 * n) w₂ (omega arith)) class_is
+    classes_long : length (classes M) ≡ n
+    unfolding classes
+    classes_long = layer-length M (rounds M)
 
-      -- the class of a reached state has its row's number
-      number_is : (q : ℕ) → q < n → Reached M q → number_at n w₆ (class_at n w₆ q) ≡ place (rows_in n count w₆) (class_at n w₆ q)
-      number_is q l r =
-          let c : ℕ = at (classes M) q in
-          let h : c < n = classes-in M lawful q l in
-          let t : any n (λ p. get_or (reachable M) p false && eqb (at (classes M) p) c) ≡ true
-          = (any_iff n _).1 (q, l, ap₂ ◌&&◌ ((reachable_iff M lawful q l).1 r) (eq-eqb c c refl)) in
-          rw (class_is q l, rows_are)
-          (u.numbers c h (eqb-true (flag_at n w₅ c) 1 (flag_is c h ∙ t)) ∙ ap (λ (xs : List ℕ). place xs c) rows_flagged)
+    writable : length numbers ≡ n → WritableBy M (rows M) numbers (classes M)
+    writable e = record {
+      some = some;
+      most = rows_most M lawful;
+      numbered = e;
+      classed = classes_long;
+      states = row_state;
+      inside = classes-in M lawful;
+      start = number_is M.start lawful.start-in (reached_start M);
+      nexts = next_number;
+    }
 
-      -- the class of a next state of a row is that of a reached state
-      next_reached : (i a : ℕ) → i < count → a < k → (q : ℕ) × (q < n) × Reached M q × (at (classes M) (M.next (at (rows M) i) a) ≡ at (classes M) q)
-      next_reached i a l m =
-          let (q, h, r, e) = (rows_of M lawful).only i (omega (arith, count_is)) in
-          let c : ℕ = at (classes M) q in
-          let inside : c < n = classes-in M lawful q h in
-          let here : M.next q a < n = lawful.next_in q a h m in
-          let there : M.next c a < n = lawful.next_in c a inside m in (
-            M.next q a,
-            here,
-            reached_next M q a m r,
-            ap (λ (x : ℕ). at (classes M) (M.next x a)) (sym e) ∙ (classes_same M lawful (M.next c a) (M.next q a) there here).1 (same_next M a m (classes_member M lawful q h)),
-          )
+  -- what all this leaves in the slice
+  module _ (w₀ w₁ w₂ : List ℕ) (takes looked : ℕ) (s : StartedIn (length marks) M.signs marks w₀ w₁) (r : RanIn N 65535 w₁ w₂ takes looked) (room : 8 * n ≤ length w₀) where
+    pub rows_found : (rest reached flags numbers listed : List ℕ) (count : ℕ) → rest ≡ drop (4 * n) w₂
+        → Found N reached → Flagged reached (lent_in rest) (length reached) flags → Numbered flags (length flags) numbers listed count
+        → length reached ≡ n → length flags ≡ n → length numbers ≡ n → length listed ≡ n
+        → RowsFound M w₀ ((reached ++ (flags ++ (numbers ++ listed))) ++ rest) count takes
+    rows_found rest reached flags numbers listed count e f flagged numbered lr lf ln ll = record {
+      long = omega (arith, length-append front rest, front_long, ap length e, length-drop (4 * n) w₂, r.long, s.long);
+      counted = count_is reached flags numbers listed count f d u lf;
+      takes = takes_found w₀ w₁ w₂ takes looked s r;
+      rows = rows_there;
+      classes = classes_there;
+      writable = rw (rows_there, numbers_there, classes_there) (writable reached flags numbers listed count f d u lf ln);
+      beyond = λ i l. agree_beyond (4 * n) after w₂ back i (omega arith) ∙ r.beyond i l ∙ (started s).beyond i l;
+    }
+      where
+        front : List ℕ
+        front = reached ++ (flags ++ (numbers ++ listed))
 
-      row_state : (i : ℕ) → i < count → at (rows M) i < n
-      row_state i l =
-          let (q, h, r, e) = (rows_of M lawful).only i (omega (arith, count_is)) in
-          subst (λ (c : ℕ). c < n) e (classes-in M lawful q h)
+        after : List ℕ
+        after = front ++ rest
 
-      next_number : (i a : ℕ) → i < count → a < k
-          → number_at n w₆ (class_at n w₆ (M.next (row_at n w₆ i) a)) ≡ place (rows_in n count w₆) (class_at n w₆ (M.next (row_at n w₆ i) a))
-      next_number i a l m =
-          let (q, h, r, e) = next_reached i a l m in
-          let there : M.next (at (rows M) i) a < n = lawful.next_in (at (rows M) i) a (row_state i l) m in
-          let same : class_at n w₆ (M.next (row_at n w₆ i) a) ≡ class_at n w₆ q
-          = ap (λ (x : ℕ). class_at n w₆ (M.next x a)) (row_is i l) ∙ class_is (M.next (at (rows M) i) a) there ∙ e ∙ sym (class_is q h) in
-          subst (λ (c : ℕ). number_at n w₆ c ≡ place (rows_in n count w₆) c) (sym same) (number_is q h r)
+        front_long : length front ≡ 4 * n
+        front_long = simp length-append (omega arith)
 
-      some : 0 < count
-      some =
-          let (i, l, e) = (rows_of M lawful).here start held.start-in (reached_start M) in
-          omega (arith, count_is)
+        d : Flagged reached (classes M) n flags
+        d = subst₂ (λ (cs : List ℕ) (x : ℕ). Flagged reached cs x flags) (classes_lent w₀ w₁ w₂ takes looked s r rest e) lr flagged
 
-      writable : Writable M count w₆
-      writable = record {
-        room = omega (arith, long);
-        some = some;
-        most = most;
-        states = λ i l. rw (row_is i l) (row_state i l);
-        classes = λ q l. rw (class_is q l) (classes-in M lawful q l);
-        start = number_is start held.start-in (reached_start M);
-        nexts = next_number;
-      }
+        u : Numbered flags n numbers listed count
+        u = subst (λ (x : ℕ). Numbered flags x numbers listed count) lf numbered
 
-      -- with the slice as it was before the splitting
-      pub rows_found : (w₀ w₁ : List ℕ) (takes looked : ℕ) → StartedIn n k marks w₀ w₁ → RanIn N 65535 w₁ w₂ takes looked → RowsFound M w₀ w₆ count takes
-      rows_found w₀ w₁ takes looked s r = record {
-        long = long ∙ r.long ∙ s.long;
-        counted = count_is;
-        rows = rows_are;
-        classes = classes-are;
-        writable = writable;
-        takes = takes_found w₀ w₁ w₂ takes looked s r;
-        beyond = λ i l. beyond i (omega arith) ∙ r.beyond i l ∙ s.beyond i l;
-      }
+        back : drop (4 * n) after ≡ drop (4 * n) w₂
+        back = drop_at front rest (4 * n) front_long ∙ e
+
+        rows_there : rows_in n count after ≡ rows M
+        rows_there =
+            let same : after ≡ (reached ++ (flags ++ numbers)) ++ (listed ++ rest) = simp append_assoc in
+            let few : count ≤ n = omega (arith, count_is reached flags numbers listed count f d u lf, rows_most M lawful) in
+            ap (rows_in n count) same
+            ∙ middle (reached ++ (flags ++ numbers)) listed rest (3 * n) count (simp length-append (omega arith)) (omega arith)
+            ∙ rows_are reached flags numbers listed count f d u lf
+
+        numbers_there : numbers_in n after ≡ numbers
+        numbers_there =
+            let same : after ≡ (reached ++ flags) ++ (numbers ++ (listed ++ rest)) = simp append_assoc in
+            ap (numbers_in n) same
+            ∙ middle (reached ++ flags) numbers (listed ++ rest) (2 * n) n (simp length-append (omega arith)) (omega arith)
+            ∙ take_all n numbers (omega arith)
+
+        classes_there : classes_in n after ≡ classes M
+        classes_there = sym (lent_is after) ∙ classes_lent w₀ w₁ w₂ takes looked s r (drop (4 * n) after) back

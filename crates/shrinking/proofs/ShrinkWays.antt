@@ -1,11 +1,11 @@
 -- The ways out of the shrinking call, each with its facts. Rests on the length of an encoded machine.
 use mathlib.Core.Path.{◌≡◌, refl, sym, ap, ap₂, ◌∙◌}
 use mathlib.Core.List.{List, [], ◌∷◌}
-use Prim.Native.Nat.{ℕ, ◌*◌, ◌≤◌, ◌<◌}
+use Prim.Native.Nat.{ℕ, ◌+◌, ◌-◌, ◌*◌, ◌≤◌, ◌<◌}
 use native.Mathlib.Omega.{arith}
 use borrow.Author.Tests.{lt-ltb, le-ltb}
 use lib.Dec.{ltb}
-use lib.ListN.{length}
+use lib.ListN.{length, take, drop}
 use Rattle.automaton.specs.Machine.{Machine}
 use Rattle.automaton.specs.Quotient.{rows, quotient_by, quotient}
 use Rattle.lending.specs.Memory.{cleared, written}
@@ -21,7 +21,7 @@ use Rattle.table.proofs.Leavings.{file_refused, file_given, refuses_here, refuse
 use Rattle.table.proofs.Openings.{good_given}
 use Rattle.table.proofs.Handing.{table_machine}
 use Rattle.shrinking.specs.Shrunk.{shrunk}
-use Rattle.shrinking.specs.Written.{row_machine, file_length}
+use Rattle.shrinking.specs.Written.{WritableBy, rows_in, classes_in, file_length}
 use Rattle.shrinking.specs.Found.{RowsFound}
 use Rattle.shrinking.specs.Calls.{shrink_of, shrink_leaves}
 
@@ -40,10 +40,35 @@ by_machine : (file work out : List ℕ) → shrink_of file work out ≡ shrink_b
 unfolding shrink_of shrink_by shrunk
 by_machine file work out = refl
 
--- the rows found: the file of the machine over them is that of the quotient, and as long
+-- the parts of the slice that are lent to the writing
+abbrev pub rows_lent : ℕ → ℕ → List ℕ → List ℕ
+rows_lent n count work = take (3 * n + count - 3 * n) (drop (3 * n) work)
+
+abbrev pub numbers_lent : ℕ → List ℕ → List ℕ
+numbers_lent n work = take (3 * n - 2 * n) (drop (2 * n) work)
+
+abbrev pub classes_lent : ℕ → List ℕ → List ℕ
+classes_lent n work = take (7 * n - 6 * n) (drop (6 * n) work)
+
+-- the rows found: no more than states; the file of the machine over them is that of the quotient, and as long
 module _ (M : Machine) (before after : List ℕ) (count takes : ℕ) (f : RowsFound M before after count takes) where
-  row-machine : row_machine M count after ≡ quotient M
-  row-machine = ap₂ (quotient_by M) f.classes f.rows
+  rows_are : rows_lent M.size count after ≡ rows_in M.size count after
+  rows_are = ap (λ (m : ℕ). take m (drop (3 * M.size) after)) (omega arith)
+
+  classes_are : classes_lent M.size after ≡ classes_in M.size after
+  classes_are = ap (λ (m : ℕ). take m (drop (6 * M.size) after)) (omega arith)
+
+  pub rows_long : length (rows_lent M.size count after) ≡ count
+  rows_long = ap length (rows_are ∙ f.rows) ∙ sym f.counted
+
+  pub count_most : count ≤ M.size
+  count_most = omega (arith, ap length f.rows, f.counted, f.writable.most)
+
+  pub lent_writable : WritableBy M (rows_lent M.size count after) (numbers_lent M.size after) (classes_lent M.size after)
+  lent_writable = let e : 3 * M.size - 2 * M.size ≡ M.size = omega arith in rw (rows_are, classes_are, e) f.writable
+
+  row-machine : quotient_by M (classes_lent M.size after) (rows_lent M.size count after) ≡ quotient M
+  row-machine = ap₂ (quotient_by M) (classes_are ∙ f.classes) (rows_are ∙ f.rows)
 
   length_is : file_length count M.signs ≡ length (encode (quotient M))
   length_is = ap (λ (r : ℕ). file_length r M.signs) f.counted ∙ sym (encoded_length (quotient M))
@@ -82,7 +107,7 @@ module _ (file : List ℕ) (t : Table) (h : TableOf file t) (work out : List ℕ
         ∙ refuses_here 12 file_long (cleared (16 * n) work ∷ out ∷ []) _ (lt-ltb (length out) file_long (omega (arith, long))))
 
     pub shrink_made : file_length count t.nexts.sizes.signs ≤ length out
-        → left (gives (count ∷ file_length count t.nexts.sizes.signs ∷ [])) (cleared (16 * n) after ∷ written (encode (row_machine (machine t) count after)) out ∷ [])
+        → left (gives (count ∷ file_length count t.nexts.sizes.signs ∷ [])) (cleared (16 * n) after ∷ written (encode (quotient_by (machine t) (classes_lent n after) (rows_lent n count after))) out ∷ [])
         ≡ shrink_leaves file work out
     unfolding shrink_by
     shrink_made l =

@@ -21,19 +21,17 @@ use Rattle.shrinking.specs.Reached.{leads_to, Spread}
 pub spread_none : (M : Machine) (q : ℕ) (w : List ℕ) → Spread M q 0 w w false
 unfolding leads_to any pick
 spread_none M q w = record {
-  long = refl;
   marks = λ x l. refl;
   quiet = λ e x l. refl;
   busy = λ e. absurd (true≢false (sym e));
-  beyond = λ i k. refl;
 }
 
-module _ (M : Machine) (q a : ℕ) (w v : List ℕ) (new : Bool) (s : Spread M q a w v new) (x : ℕ) (e : x ≡ M.next q a) (l : x < M.size) (room : M.size ≤ length w) (small : (y : ℕ) → y < M.size → at w y ≤ 1) where
+module _ (M : Machine) (q a : ℕ) (w v : List ℕ) (new : Bool) (s : Spread M q a w v new) (x : ℕ) (e : x ≡ M.next q a) (l : x < M.size) (room : M.size ≤ length v) (small : (y : ℕ) → y < M.size → at w y ≤ 1) where
   abbrev u : List ℕ
   u = set v x 1
 
   own : at u x ≡ 1
-  own = get_or-set_same v x 1 0 (omega (arith, s.long))
+  own = get_or-set_same v x 1 0 (omega arith)
 
   other : (y : ℕ) → y ≢ x → at u y ≡ at v y
   other y = get_or-set_other v x y 1 0
@@ -66,11 +64,9 @@ module _ (M : Machine) (q a : ℕ) (w v : List ℕ) (new : Bool) (s : Spread M q
 
   more_signs : Spread M q (suc a) w u (new || eqb (at v x) 0)
   more_signs = record {
-    long = length-set v x 1 ∙ s.long;
     marks = marks;
     quiet = λ f. let (g, h) = neither new (eqb (at v x) 0) f in quiet g h;
     busy = busy new (eqb (at v x) 0) refl refl;
-    beyond = λ i k. other i (omega arith) ∙ s.beyond i k;
   }
 
   pub spread_more : (told : Bool) → told ≡ (new || eqb (at v x) 0) → Spread M q (a + 1) w u told

@@ -2,20 +2,21 @@
 -- the rows as one part more. Rests on the laws of `tab` and `flat`.
 use mathlib.Core.Path.{◌≡◌, refl, sym, ap, ◌∙◌}
 use mathlib.Core.List.{List, [], ◌∷◌, ◌++◌}
-use Prim.Native.Nat.{ℕ, suc, ◌+◌, ◌*◌, ◌/◌, ◌%◌, ◌≤◌, ◌<◌}
-use native.Mathlib.Nat.{zero-add, add-zero, add-suc, suc-add, suc-mul, mul_comm, mul-le-mul_right}
+use Prim.Native.Nat.{ℕ, suc, ◌+◌, ◌*◌, ◌/◌, ◌%◌, ◌≤◌}
+use native.Mathlib.Nat.{zero-add, add-zero, add-suc, suc-add, mul_comm}
 use native.Mathlib.Numerals.{add-one}
 use native.Mathlib.Omega.{arith}
 use lib.ListN.{length, set, drop}
 use lib.Seq.{sets, sets-eq}
 use Rattle.counting.specs.Lists.{at, tab, flat}
 use Rattle.counting.proofs.Tabs.{tab-length, tab_more, flat-length, flat_more}
+use Rattle.automaton.specs.Machine.{Machine}
 use Rattle.lending.specs.Memory.{written}
-use Rattle.lending.specs.Pairs.{pair_at, pair}
+use Rattle.lending.specs.Pairs.{pair}
 use Rattle.lending.proofs.Grids.{grid_length}
-use Rattle.table.specs.Encoding.{machine_in, Held, field_of}
-use Rattle.shrinking.specs.Reached.{row_at}
-use Rattle.shrinking.specs.Written.{Writable, row_of, sizes_bytes, marks_bytes, row_bytes, rows_bytes}
+use Rattle.table.specs.Encoding.{field_of}
+use Rattle.shrinking.specs.Written.{row_of, sizes_bytes, marks_bytes, row_bytes, rows_bytes}
+use Rattle.shrinking.specs.declared.writing.RowLists.{RowLists}
 
 -- stores behind stores
 pub sets-append : (l : List ℕ) (i : ℕ) (xs ys : List ℕ) (j : ℕ) → j ≡ i + length xs → sets (sets l i xs) j ys ≡ sets l i (xs ++ ys)
@@ -59,68 +60,59 @@ pub sizes_length : (rows k start : ℕ) → 12 ≡ 0 + length (sizes_bytes rows 
 unfolding sizes_bytes field_of pair
 sizes_length rows k start = refl
 
-pub marks_length : (n : ℕ) (marks work : List ℕ) (i : ℕ) → length (marks_bytes n marks work i) ≡ i
+pub marks_length : (marks rows : List ℕ) (i : ℕ) → length (marks_bytes marks rows i) ≡ i
 unfolding marks_bytes
-marks_length n marks work i = tab-length i _
+marks_length marks rows i = tab-length i _
 
-module _ (n : ℕ) (work out : List ℕ) where
-  -- one mark more
-  module _ (marks : List ℕ) where
-    pub marks_none : out ≡ sets out 12 (marks_bytes n marks work 0)
-    unfolding marks_bytes tab
-    marks_none = refl
+-- one mark more
+module _ (marks rows out : List ℕ) where
+  pub marks_none : out ≡ sets out 12 (marks_bytes marks rows 0)
+  unfolding marks_bytes tab
+  marks_none = refl
 
-    pub marks_more : (i : ℕ) (w : List ℕ) (q v : ℕ) → w ≡ sets out 12 (marks_bytes n marks work i) → v ≡ at marks q → q ≡ row_at n work i
-        → set w (12 + i) v ≡ sets out 12 (marks_bytes n marks work (i + 1))
-    unfolding marks_bytes
-    marks_more i w q v e f g =
-        ap (λ (s : List ℕ). set s (12 + i) v) e
-        ∙ sets-append out 12 (marks_bytes n marks work i) (v ∷ []) (12 + i) (ap (λ (m : ℕ). 12 + m) (sym (marks_length n marks work i)))
-        ∙ ap (λ (x : ℕ). sets out 12 (marks_bytes n marks work i ++ x ∷ [])) (f ∙ ap (at marks) g)
-        ∙ ap (sets out 12) (sym (tab_more i _))
+  pub marks_more : (i : ℕ) (w : List ℕ) (q v : ℕ) → w ≡ sets out 12 (marks_bytes marks rows i) → v ≡ at marks q → q ≡ at rows i
+      → set w (12 + i) v ≡ sets out 12 (marks_bytes marks rows (i + 1))
+  unfolding marks_bytes
+  marks_more i w q v e f g =
+      ap (λ (s : List ℕ). set s (12 + i) v) e
+      ∙ sets-append out 12 (marks_bytes marks rows i) (v ∷ []) (12 + i) (ap (λ (m : ℕ). 12 + m) (sym (marks_length marks rows i)))
+      ∙ ap (λ (x : ℕ). sets out 12 (marks_bytes marks rows i ++ x ∷ [])) (f ∙ ap (at marks) g)
+      ∙ ap (sets out 12) (sym (tab_more i _))
 
-  module _ (k : ℕ) (nexts : List ℕ) where
-    -- one next state more
-    pub row_none : (i p : ℕ) → out ≡ sets out p (row_bytes n k nexts work i 0)
-    unfolding row_bytes flat
-    row_none i p = refl
+module _ (M : Machine) (lists : RowLists) (out : List ℕ) where
+  -- one next state more
+  pub row_none : (i p : ℕ) → out ≡ sets out p (row_bytes M lists i 0)
+  unfolding row_bytes flat
+  row_none i p = refl
 
-    row_length : (i a : ℕ) → length (row_bytes n k nexts work i a) ≡ 2 * a
-    unfolding row_bytes pair
-    row_length i a = flat-length 2 a _ (λ b. refl) ∙ mul_comm a 2
+  row_length : (i a : ℕ) → length (row_bytes M lists i a) ≡ 2 * a
+  unfolding row_bytes pair
+  row_length i a = flat-length 2 a _ (λ b. refl) ∙ mul_comm a 2
 
-    pub row_more : (i p a : ℕ) (w : List ℕ) (place v : ℕ) → w ≡ sets out p (row_bytes n k nexts work i a) → place ≡ p + 2 * a
-        → v ≡ row_of n work (pair_at nexts (2 * (row_at n work i * k + a)))
-        → set (set w place (v / 256)) (place + 1) (v % 256) ≡ sets out p (row_bytes n k nexts work i (a + 1))
-    unfolding row_bytes
-    row_more i p a w place v e f g =
-        sets-pair w place v
-        ∙ ap (λ (s : List ℕ). sets s place (pair v)) e
-        ∙ sets-append out p (row_bytes n k nexts work i a) (pair v) place (omega (arith, f, row_length i a))
-        ∙ ap (λ (x : ℕ). sets out p (row_bytes n k nexts work i a ++ pair x)) g
-        ∙ ap (sets out p) (sym (flat_more a _))
+  pub row_more : (i p a : ℕ) (w : List ℕ) (place v : ℕ) → w ≡ sets out p (row_bytes M lists i a) → place ≡ p + 2 * a
+      → v ≡ row_of lists (M.next (at lists.rows.now i) a)
+      → set (set w place (v / 256)) (place + 1) (v % 256) ≡ sets out p (row_bytes M lists i (a + 1))
+  unfolding row_bytes
+  row_more i p a w place v e f g =
+      sets-pair w place v
+      ∙ ap (λ (s : List ℕ). sets s place (pair v)) e
+      ∙ sets-append out p (row_bytes M lists i a) (pair v) place (omega (arith, f, row_length i a))
+      ∙ ap (λ (x : ℕ). sets out p (row_bytes M lists i a ++ pair x)) g
+      ∙ ap (sets out p) (sym (flat_more a _))
 
-    -- one row more
-    pub rows_none : (p : ℕ) → out ≡ sets out p (rows_bytes n k nexts work 0)
-    unfolding rows_bytes flat
-    rows_none p = refl
+  -- one row more
+  pub rows_none : (p : ℕ) → out ≡ sets out p (rows_bytes M lists 0)
+  unfolding rows_bytes flat
+  rows_none p = refl
 
-    pub rows-length : (i : ℕ) → length (rows_bytes n k nexts work i) ≡ 2 * (i * k)
-    unfolding rows_bytes row_bytes
-    rows-length i = grid_length i k (λ j a. row_of n work (pair_at nexts (2 * (row_at n work j * k + a))))
+  pub rows-length : (i : ℕ) → length (rows_bytes M lists i) ≡ 2 * (i * M.signs)
+  unfolding rows_bytes row_bytes
+  rows-length i = grid_length i M.signs (λ j a. row_of lists (M.next (at lists.rows.now j) a))
 
-    pub rows_more : (p i : ℕ) (w : List ℕ) → w ≡ sets out p (rows_bytes n k nexts work i)
-        → sets w (p + 2 * (i * k)) (row_bytes n k nexts work i k) ≡ sets out p (rows_bytes n k nexts work (i + 1))
-    unfolding rows_bytes
-    rows_more p i w e =
-        ap (λ (s : List ℕ). sets s (p + 2 * (i * k)) (row_bytes n k nexts work i k)) e
-        ∙ sets-append out p (rows_bytes n k nexts work i) (row_bytes n k nexts work i k) (p + 2 * (i * k)) (ap (λ (m : ℕ). p + m) (sym (rows-length i)))
-        ∙ ap (sets out p) (sym (flat_more i (λ j. row_bytes n k nexts work j k)))
-
--- the rows before one, and the row, are among the rows
-pub row_within : (rows k i : ℕ) → i < rows → i * k + k ≤ rows * k
-row_within rows k i l = omega (arith, suc-mul i k, mul-le-mul_right {m = suc i} {n = rows} k l)
-
--- the next states of the rows are no more than those of the states
-pub rows_most : (n k start : ℕ) (nexts work : List ℕ) (rows : ℕ) → Held n k start nexts → Writable (machine_in n k start [] nexts) rows work → rows * k ≤ 32000
-rows_most n k start nexts work rows h w = omega (arith, h.range.nexts_most, mul-le-mul_right {m = rows} {n = n} k w.most)
+  pub rows_more : (p i : ℕ) (w : List ℕ) → w ≡ sets out p (rows_bytes M lists i)
+      → sets w (p + 2 * (i * M.signs)) (row_bytes M lists i M.signs) ≡ sets out p (rows_bytes M lists (i + 1))
+  unfolding rows_bytes
+  rows_more p i w e =
+      ap (λ (s : List ℕ). sets s (p + 2 * (i * M.signs)) (row_bytes M lists i M.signs)) e
+      ∙ sets-append out p (rows_bytes M lists i) (row_bytes M lists i M.signs) (p + 2 * (i * M.signs)) (ap (λ (m : ℕ). p + m) (sym (rows-length i)))
+      ∙ ap (sets out p) (sym (flat_more i (λ j. row_bytes M lists j M.signs)))

@@ -20,28 +20,22 @@ use Rattle.counting.proofs.Tallies.{any_iff, count_more}
 use Rattle.automaton.specs.Machine.{Machine, Lawful}
 use Rattle.automaton.specs.Words.{Word, steps, Reached}
 use Rattle.automaton.proofs.Quotients.{reached_start, reached_next}
-use Rattle.lending.specs.Memory.{cleared}
-use Rattle.lending.proofs.Memories.{cleared-length, cleared_at, cleared_beyond}
 use Rattle.shrinking.specs.Reached.{leads_to, Spread, SpreadMarked, Sound, Swept, Found}
 
 -- What one state of a sweep leaves: marks are only set, and its own next states are marked where it is.
 record Stepped (M : Machine) (q : ℕ) (before after : List ℕ) (new : Bool) : Type 0 where
-  long : length after ≡ length before
   sound : Sound M after
   kept : (x : ℕ) → x < M.size → at before x ≡ 1 → at after x ≡ 1
   quiet : new ≡ false → (x : ℕ) → x < M.size → at after x ≡ at before x
   own : (a : ℕ) → a < M.signs → at before q ≡ 1 → at after (M.next q a) ≡ 1
   busy : new ≡ true → (x : ℕ) × (x < M.size) × (at before x ≡ 0) × (at after x ≡ 1)
-  beyond : (i : ℕ) → M.size ≤ i → at after i ≡ at before i
 
 -- What a sweep over the first q states leaves.
 pub record Sweeping (M : Machine) (q : ℕ) (before after : List ℕ) (new : Bool) : Type 0 where
-  pub long : length after ≡ length before
   pub sound : Sound M after
   pub kept : (x : ℕ) → x < M.size → at before x ≡ 1 → at after x ≡ 1
   pub quiet : new ≡ false → (x a : ℕ) → x < q → a < M.signs → at after x ≡ 1 → at after (M.next x a) ≡ 1
   pub busy : new ≡ true → (x : ℕ) × (x < M.size) × (at before x ≡ 0) × (at after x ≡ 1)
-  pub beyond : (i : ℕ) → M.size ≤ i → at after i ≡ at before i
 
 module _ (M : Machine) (g : Lawful M) where
   module _ (q : ℕ) (l : q < M.size) (w v : List ℕ) (new : Bool) (s : Sound M w) where
@@ -59,35 +53,31 @@ module _ (M : Machine) (g : Lawful M) where
       unfolding leads_to
       led x t =
           let (a, k, e) = (any_iff M.signs _).0 t in
-          subst (Reached M) (eqb-true (M.next q a) x e) (reached_next M q a k (s.reached q l m))
+          subst (Reached M) (eqb-true (M.next q a) x e) (reached_next M q a k (s.only q l m))
 
       kept : (x : ℕ) → x < M.size → at w x ≡ 1 → at v x ≡ 1
       kept x k e = by_test (leads_to M q M.signs x) (marked x k).0 (λ t. (marked x k).1 t ∙ e)
 
       stepped_marked : Stepped M q w v new
       stepped_marked = record {
-        long = p.long;
         sound = record {
           small = λ x k. by_test (leads_to M q M.signs x) (λ t. omega (arith, (marked x k).0 t)) (λ t. omega (arith, (marked x k).1 t, s.small x k));
           start = kept M.start g.start-in s.start;
-          reached = λ x k e. by_test (leads_to M q M.signs x) (led x) (λ t. s.reached x k (sym ((marked x k).1 t) ∙ e));
+          only = λ x k e. by_test (leads_to M q M.signs x) (led x) (λ t. s.only x k (sym ((marked x k).1 t) ∙ e));
         };
         kept = kept;
         quiet = p.quiet;
         own = λ a k e. (marked (M.next q a) (g.next_in q a l k)).0 (leads (M.next q a) a k refl);
         busy = p.busy;
-        beyond = p.beyond;
       }
 
     stepped_unmarked : at w q ≡ 0 → v ≡ w → new ≡ false → Stepped M q w v new
     stepped_unmarked z e f = rw e (record {
-      long = refl;
       sound = s;
       kept = λ x k h. h;
       quiet = λ t x k. refl;
       own = λ a k h. absurd (omega arith);
       busy = λ t. absurd (true≢false (sym t ∙ f));
-      beyond = λ i k. refl;
     })
 
     stepped : SpreadMarked M q w v new → Stepped M q w v new
@@ -98,12 +88,10 @@ module _ (M : Machine) (g : Lawful M) where
 
   pub sweep_none : (w : List ℕ) → Sound M w → Sweeping M 0 w w false
   sweep_none w s = record {
-    long = refl;
     sound = s;
     kept = λ x k e. e;
     quiet = λ t x a k. absurd (not-suc-le-zero k);
     busy = λ t. absurd (true≢false (sym t));
-    beyond = λ i k. refl;
   }
 
   module _ (q : ℕ) (l : q < M.size) (w v u : List ℕ) (new more : Bool) (s : Sound M w) (r : Sweeping M q w v new) (p : Stepped M q v u more) where
@@ -128,12 +116,10 @@ module _ (M : Machine) (g : Lawful M) where
 
     goes_on : Sweeping M (suc q) w u (new || more)
     goes_on = record {
-      long = p.long ∙ r.long;
       sound = p.sound;
       kept = λ x k e. p.kept x k (r.kept x k e);
       quiet = λ t. let (e, f) = neither new more t in closed e f;
       busy = busy new more refl refl;
-      beyond = λ i k. p.beyond i k ∙ r.beyond i k;
     }
 
   pub sweep_more : (q : ℕ) → q < M.size → (w v u : List ℕ) (new more told : Bool) → Sound M w → Sweeping M q w v new → SpreadMarked M q v u more → told ≡ (new || more) → Sweeping M (q + 1) w u told
@@ -141,43 +127,32 @@ module _ (M : Machine) (g : Lawful M) where
 
   pub sweep_done : (q : ℕ) (w v : List ℕ) (new : Bool) → M.size ≤ q → Sweeping M q w v new → Swept M w v new
   sweep_done q w v new m r = record {
-    long = r.long;
     sound = r.sound;
     kept = r.kept;
     quiet = λ t x a k. r.quiet t x a (omega arith);
     busy = r.busy;
-    beyond = r.beyond;
   }
 
-  -- the start alone is marked, and all beyond the marks is as it was
-  module _ (w v : List ℕ) (e : v ≡ cleared M.size w) (room : M.size ≤ length w) where
+  -- the start alone is marked
+  module _ (w : List ℕ) (room : M.size ≤ length w) (clear : (x : ℕ) → x < M.size → at w x ≡ 0) where
     abbrev s : ℕ
     s = M.start
 
-    same_long : length v ≡ length w
-    same_long = rw e (cleared-length M.size w room)
+    only : (x : ℕ) → x ≡ s → at (set w s 1) x ≡ 1
+    only x d = rw d (get_or-set_same w s 1 0 (omega (arith, g.start-in)))
 
-    only : (x : ℕ) → x ≡ s → at (set v s 1) x ≡ 1
-    only x d = rw d (get_or-set_same v s 1 0 (omega (arith, g.start-in, same_long)))
+    others : (x : ℕ) → x < M.size → x ≢ s → at (set w s 1) x ≡ 0
+    others x k u = get_or-set_other w s x 1 0 u ∙ clear x k
 
-    others : (x : ℕ) → x < M.size → x ≢ s → at (set v s 1) x ≡ 0
-    others x k u = get_or-set_other v s x 1 0 u ∙ rw e (cleared_at M.size w x k)
-
-    pub sound_start : Sound M (set v s 1)
+    pub sound_start : Sound M (set w s 1)
     sound_start = record {
       small = λ x k. elim (ℕ_discrete x s) [ yes d ↦ omega (arith, only x d) | no u ↦ omega (arith, others x k u) ];
       start = only s refl;
-      reached = λ x k o. elim (ℕ_discrete x s) [
+      only = λ x k o. elim (ℕ_discrete x s) [
         | yes d ↦ subst (Reached M) (sym d) (reached_start M)
         | no u ↦ absurd (omega (arith, others x k u))
       ];
     }
-
-    pub start_long : length (set v s 1) ≡ length w
-    start_long = length-set v s 1 ∙ same_long
-
-    pub start_beyond : (i : ℕ) → M.size ≤ i → at (set v s 1) i ≡ at w i
-    start_beyond i k = get_or-set_other v s i 1 0 (omega (arith, g.start-in)) ∙ rw e (cleared_beyond M.size w i k)
 
   -- a closed set of marks has where its states lead
   closed_steps : (v : List ℕ) → ((x a : ℕ) → x < M.size → a < M.signs → at v x ≡ 1 → at v (M.next x a) ≡ 1)
@@ -187,12 +162,10 @@ module _ (M : Machine) (g : Lawful M) where
   closed_steps v h x l o (a ∷ by) t = closed_steps v h (M.next x a) (g.next_in x a l t.0) (h x a l t.0 o) by t.1
 
   -- where a sweep marks nothing new, the marked states are those that are reached
-  pub found_quiet : (w v u : List ℕ) (new : Bool) → new ≡ false → length v ≡ length w → ((i : ℕ) → M.size ≤ i → at v i ≡ at w i) → Swept M v u new → Found M w u
-  found_quiet w v u new t long beyond s = record {
-    long = s.long ∙ long;
+  pub found_quiet : (v u : List ℕ) (new : Bool) → new ≡ false → Swept M v u new → Found M u
+  found_quiet v u new t s = record {
     small = s.sound.small;
-    reached = λ x l. (s.sound.reached x l, λ r. subst (λ (y : ℕ). at u y ≡ 1) r.leads (closed_steps u (s.quiet t) M.start g.start-in s.sound.start r.by r.word));
-    beyond = λ i k. s.beyond i k ∙ beyond i k;
+    marks = λ x l. (s.sound.only x l, λ r. subst (λ (y : ℕ). at u y ≡ 1) r.leads (closed_steps u (s.quiet t) M.start g.start-in s.sound.start r.by r.word));
   }
 
 -- a sweep that marks a state leaves fewer unmarked

@@ -1,58 +1,63 @@
 // The rows: the classes that hold a reached state, numbered in rising order.
-ghost use Rattle.std.specs.Prelude.{◌≡◌, ℕ, ◌+◌, ◌*◌, ◌<◌, ◌≤◌, length};
-ghost use Rattle.shrinking.specs.Reached.{flag_at, class_at, flagged_by, Flagged, NumberedBy, Numbered};
+ghost use Rattle.std.specs.Prelude.{◌≡◌, ℕ, ◌*◌, ◌<◌, ◌≤◌, length};
+ghost use Rattle.counting.specs.Lists.{at};
+ghost use Rattle.shrinking.specs.Reached.{flagged_by, Flagged, NumberedBy, Numbered};
 
 use lending::number_at;
 
 // Flags the class of a state that is marked.
 #[tactic(auto, using(crate::proofs::Flagging::one_state))]
-fn flag_class(work: &mut [u16], n: usize, q: usize)
-    requires room { (7 * n ≤ length work.old) × (n ≤ 1024) }
-    requires within { (q < n) × (class_at n work.old q < n) }
-    ensures { work.new ≡ flagged_by n q work.old }
+fn flag_class(reached: &[u16], classes: &[u16], flags: &mut [u16], q: usize)
+    requires { (q < length reached.now) × (q < length classes.now) × (at classes.now q < length flags.old) }
+    ensures { flags.new ≡ flagged_by reached.now classes.now q flags.old }
 {
-    if number_at(work, q) == 1 {
-        let flag = n + number_at(work, 6 * n + q);
-        work[flag] = 1;
+    if number_at(reached, q) == 1 {
+        flags[number_at(classes, q)] = 1;
     }
 }
 
 // Flags every class that holds a marked state.
-pub fn flag_classes(work: &mut [u16], n: usize)
-    requires room { (7 * n ≤ length work.old) × (n ≤ 1024) }
-    requires classed { (q : ℕ) → q < n → class_at n work.old q < n }
-    requires unflagged { (c : ℕ) → c < n → flag_at n work.old c ≡ 0 }
-    ensures { Flagged n n work.old work.new }
+pub fn flag_classes(reached: &[u16], classes: &[u16], flags: &mut [u16])
+    requires sized { length classes.now ≡ length reached.now }
+    requires classed { (q : ℕ) → q < length reached.now → at classes.now q < length flags.old }
+    requires unflagged { (c : ℕ) → c < length flags.old → at flags.old c ≡ 0 }
+    ensures { Flagged reached.now classes.now (length reached.now) flags.new }
 {
-    for q in 0..n {
-        flag_class(work, n, q);
+    for q in 0..reached.len() {
+        flag_class(reached, classes, flags, q);
     }
 }
 
 // Numbers a class that is flagged as the next row, and lists its name; gives how many rows there are then.
-fn number_class(work: &mut [u16], n: usize, c: usize, rows: usize) -> usize
-    requires room { (7 * n ≤ length work.old) × (n ≤ 1024) }
-    requires within { (c < n) × (rows ≤ c) }
-    ensures { NumberedBy n c rows work.old work.new result }
+fn number_class(
+    flags: &[u16],
+    numbers: &mut [u16],
+    rows: &mut [u16],
+    c: usize,
+    count: usize,
+) -> usize
+    requires few { length flags.now ≤ 1024 }
+    requires sized { (length numbers.old ≡ length flags.now) × (length rows.old ≡ length flags.now) }
+    requires within { (c < length flags.now) × (count ≤ c) }
+    ensures { NumberedBy flags.now c count numbers.old numbers.new rows.old rows.new result }
 {
-    if number_at(work, n + c) == 1 {
-        let number = 2 * n + c;
-        let row = 3 * n + rows;
-        work[number] = rows as u16;
-        work[row] = c as u16;
-        return rows + 1;
+    if number_at(flags, c) == 1 {
+        numbers[c] = count as u16;
+        rows[count] = c as u16;
+        return count + 1;
     }
-    rows
+    count
 }
 
 // Numbers the flagged classes in rising order; gives how many there are.
-pub fn number_rows(work: &mut [u16], n: usize) -> usize
-    requires room { (7 * n ≤ length work.old) × (n ≤ 1024) }
-    ensures { Numbered n n work.old work.new result }
+pub fn number_rows(flags: &[u16], numbers: &mut [u16], rows: &mut [u16]) -> usize
+    requires few { length flags.now ≤ 1024 }
+    requires sized { (length numbers.old ≡ length flags.now) × (length rows.old ≡ length flags.now) }
+    ensures { Numbered flags.now (length flags.now) numbers.new rows.new result }
 {
-    let mut rows = 0;
-    for c in 0..n {
-        rows = number_class(work, n, c, rows);
+    let mut count = 0;
+    for c in 0..flags.len() {
+        count = number_class(flags, numbers, rows, c, count);
     }
-    rows
+    count
 }

@@ -7,7 +7,7 @@ ghost use Rattle.shrinking.specs.Calls.{told, shrink_leaves};
 
 use crate::reaching::find_reached;
 use crate::rows::{flag_classes, number_rows};
-use crate::writing::write_file;
+use crate::writing::{RowLists, write_file};
 use lending::clear;
 use splitting::runs::run_takes;
 use splitting::starts::start_in;
@@ -37,10 +37,16 @@ pub fn find_rows(table: &Table<'_>, work: &mut [u16]) -> Rows
     let n = table.nexts.sizes.states;
     start_in(&table.marks, table.nexts.sizes.signs, work);
     let takes = run_takes(&table.nexts, 65535, work).takes;
-    clear(work, 2 * n);
-    find_reached(&table.nexts, work);
-    flag_classes(work, n);
-    let count = number_rows(work, n);
+    let (lists, rest) = work.split_at_mut(4 * n);
+    let (reached, lists) = lists.split_at_mut(n);
+    let (flags, lists) = lists.split_at_mut(n);
+    let (numbers, rows) = lists.split_at_mut(n);
+    let rest = &rest[..];
+    let classes = &rest[2 * n..3 * n];
+    find_reached(&table.nexts, reached);
+    flags.fill(0);
+    flag_classes(reached, classes, flags);
+    let count = number_rows(flags, numbers, rows);
     Rows { count, takes }
 }
 
@@ -49,7 +55,8 @@ pub fn shrink(file: &[u8], work: &mut [u16], out: &mut [u8]) -> Result<Size, Ref
     ensures { left (told result) (work.new ∷ out.new ∷ []) ≡ shrink_leaves file.now work.old out.old }
 {
     let table = table_in(file)?;
-    let room = 16 * table.nexts.sizes.states;
+    let n = table.nexts.sizes.states;
+    let room = 16 * n;
     if work.len() < room {
         return Err(Refusal {
             kind: Kind::Work,
@@ -65,7 +72,13 @@ pub fn shrink(file: &[u8], work: &mut [u16], out: &mut [u8]) -> Result<Size, Ref
             place: length,
         });
     }
-    write_file(table.marks.bytes, &table.nexts, work, rows, out);
+    let lent = &work[..];
+    let lists = RowLists {
+        rows: &lent[3 * n..3 * n + rows],
+        numbers: &lent[2 * n..3 * n],
+        classes: &lent[6 * n..7 * n],
+    };
+    write_file(table.marks.bytes, &table.nexts, &lists, out);
     clear(work, room);
     Ok(Size { rows, length })
 }

@@ -3,23 +3,30 @@ ghost use Rattle.std.specs.Prelude.{◌≡◌, ℕ, ◌+◌, ◌*◌, ◌<◌, �
 ghost use Rattle.std.proofs.lemmas.List.Edits.{sets};
 ghost use Rattle.counting.specs.Lists.{at};
 ghost use Rattle.lending.specs.Memory.{written};
-ghost use Rattle.table.specs.Encoding.{machine_in, field_of, encode};
+ghost use Rattle.automaton.specs.Quotient.{quotient_by};
+ghost use Rattle.table.specs.Encoding.{field_of, encode};
 ghost use Rattle.table.specs.Tables.{unmarked};
-ghost use Rattle.shrinking.specs.Reached.{row_at};
-ghost use Rattle.shrinking.specs.Written.{row_machine, Writable, file_length, sizes_bytes, marks_bytes, row_bytes, rows_bytes};
+ghost use Rattle.shrinking.specs.Written.{WritableBy, file_length, machine_with, row_of, sizes_bytes, marks_bytes, row_bytes, rows_bytes};
 
 use lending::{number_at, put_pair};
 use table::tables::NextStates;
 
+// The class name of each row, the row number of each class that has one, and the class of each state.
+#[derive(Clone, Copy)]
+pub struct RowLists<'a> {
+    pub rows: &'a [u16],
+    pub numbers: &'a [u16],
+    pub classes: &'a [u16],
+}
+
 // The row number of the class of a state.
-fn row_of(work: &[u16], n: usize, q: usize) -> usize
-    requires room { 7 * n ≤ length work.now }
-    requires within { (q < n) × (at work.now (6 * n + q) < n) }
-    ensures value { result ≡ at work.now (2 * n + at work.now (6 * n + q)) }
+fn row_of(lists: &RowLists<'_>, q: usize) -> usize
+    requires { (q < length lists.now.classes.now) × (at lists.now.classes.now q < length lists.now.numbers.now) }
+    ensures value { result ≡ row_of lists.now q }
     ensures small { result < 65536 }
 {
-    let class = number_at(work, 6 * n + q);
-    number_at(work, 2 * n + class)
+    let class = number_at(lists.classes, q);
+    number_at(lists.numbers, class)
 }
 
 // Writes field 1, and the head of field 2.
@@ -38,58 +45,57 @@ pub fn write_sizes(rows: usize, signs: usize, start: usize, out: &mut [u8])
 }
 
 // Writes the marks of the rows.
-fn write_marks(marks: &[u8], n: usize, work: &[u16], rows: usize, out: &mut [u8])
-    requires listed { (3 * n + rows ≤ length work.now) × ((i : ℕ) → i < rows → row_at n work.now i < length marks.now) }
-    requires room { 12 + rows ≤ length out.old }
-    ensures { out.new ≡ sets out.old 12 (marks_bytes n marks.now work.now rows) }
+fn write_marks(marks: &[u8], rows: &[u16], out: &mut [u8])
+    requires listed { (i : ℕ) → i < length rows.now → at rows.now i < length marks.now }
+    requires room { 12 + length rows.now ≤ length out.old }
+    ensures { out.new ≡ sets out.old 12 (marks_bytes marks.now rows.now (length rows.now)) }
 {
-    for i in 0..rows {
+    for i in 0..rows.len() {
         let place = 12 + i;
-        out[place] = marks[number_at(work, 3 * n + i)];
+        out[place] = marks[number_at(rows, i)];
     }
 }
 
 // Writes the next states of one row.
-fn write_row(nexts: &NextStates<'_>, work: &[u16], rows: usize, i: usize, out: &mut [u8])
-    requires writable { Writable (unmarked nexts.now) rows work.now }
-    requires row { i < rows }
-    requires room { file_length rows nexts.now.sizes.signs ≤ length out.old }
-    ensures { out.new ≡ sets out.old (12 + rows + 3 + 2 * (i * nexts.now.sizes.signs)) (row_bytes nexts.now.sizes.states nexts.now.sizes.signs nexts.now.bytes.now work.now i nexts.now.sizes.signs) }
+fn write_row(nexts: &NextStates<'_>, lists: &RowLists<'_>, i: usize, out: &mut [u8])
+    requires writable { WritableBy (unmarked nexts.now) lists.now.rows.now lists.now.numbers.now lists.now.classes.now }
+    requires row { i < length lists.now.rows.now }
+    requires room { file_length (length lists.now.rows.now) nexts.now.sizes.signs ≤ length out.old }
+    ensures { out.new ≡ sets out.old (12 + length lists.now.rows.now + 3 + 2 * (i * nexts.now.sizes.signs)) (row_bytes (unmarked nexts.now) lists.now i nexts.now.sizes.signs) }
 {
-    let n = nexts.sizes.states;
     let signs = nexts.sizes.signs;
-    let state = number_at(work, 3 * n + i);
-    let from = 12 + rows + 3 + 2 * (i * signs);
+    let state = number_at(lists.rows, i);
+    let from = 12 + lists.rows.len() + 3 + 2 * (i * signs);
     for a in 0..signs {
-        let row = row_of(work, n, nexts.next_of(state, a));
+        let row = row_of(lists, nexts.next_of(state, a));
         put_pair(out, from + 2 * a, row);
     }
 }
 
 // Writes the head of field 3 and the next states of all rows.
-fn write_rows(nexts: &NextStates<'_>, work: &[u16], rows: usize, out: &mut [u8])
-    requires writable { Writable (unmarked nexts.now) rows work.now }
-    requires room { file_length rows nexts.now.sizes.signs ≤ length out.old }
-    ensures { out.new ≡ sets out.old (12 + rows) (field_of 3 (rows_bytes nexts.now.sizes.states nexts.now.sizes.signs nexts.now.bytes.now work.now rows)) }
+fn write_rows(nexts: &NextStates<'_>, lists: &RowLists<'_>, out: &mut [u8])
+    requires writable { WritableBy (unmarked nexts.now) lists.now.rows.now lists.now.numbers.now lists.now.classes.now }
+    requires room { file_length (length lists.now.rows.now) nexts.now.sizes.signs ≤ length out.old }
+    ensures { out.new ≡ sets out.old (12 + length lists.now.rows.now) (field_of 3 (rows_bytes (unmarked nexts.now) lists.now (length lists.now.rows.now))) }
 {
+    let rows = lists.rows.len();
     let tag = 12 + rows;
     out[tag] = 3;
     put_pair(out, tag + 1, 2 * (rows * nexts.sizes.signs));
     for i in 0..rows {
-        write_row(nexts, work, rows, i, out);
+        write_row(nexts, lists, i, out);
     }
 }
 
 // Writes the file of the rows. Of the marks it asks only how many there are, so it takes no `Table`.
-pub fn write_file(marks: &[u8], nexts: &NextStates<'_>, work: &[u16], rows: usize, out: &mut [u8])
+pub fn write_file(marks: &[u8], nexts: &NextStates<'_>, lists: &RowLists<'_>, out: &mut [u8])
     requires marks { length marks.now ≡ nexts.now.sizes.states }
-    requires writable { Writable (machine_in nexts.now.sizes.states nexts.now.sizes.signs nexts.now.sizes.start marks.now nexts.now.bytes.now) rows work.now }
-    requires room { file_length rows nexts.now.sizes.signs ≤ length out.old }
-    ensures { out.new ≡ written (encode (row_machine (machine_in nexts.now.sizes.states nexts.now.sizes.signs nexts.now.sizes.start marks.now nexts.now.bytes.now) rows work.now)) out.old }
+    requires writable { WritableBy (machine_with nexts.now marks.now) lists.now.rows.now lists.now.numbers.now lists.now.classes.now }
+    requires room { file_length (length lists.now.rows.now) nexts.now.sizes.signs ≤ length out.old }
+    ensures { out.new ≡ written (encode (quotient_by (machine_with nexts.now marks.now) lists.now.classes.now lists.now.rows.now)) out.old }
 {
-    let n = nexts.sizes.states;
-    let start = row_of(work, n, nexts.sizes.start);
-    write_sizes(rows, nexts.sizes.signs, start, out);
-    write_marks(marks, n, work, rows, out);
-    write_rows(nexts, work, rows, out);
+    let start = row_of(lists, nexts.sizes.start);
+    write_sizes(lists.rows.len(), nexts.sizes.signs, start, out);
+    write_marks(marks, lists.rows, out);
+    write_rows(nexts, lists, out);
 }

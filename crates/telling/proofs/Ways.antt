@@ -2,12 +2,14 @@
 use mathlib.Core.Path.{◌≡◌, refl, sym, ap, subst, ◌∙◌}
 use mathlib.Core.Logic.{◌≢◌}
 use mathlib.Core.List.{List, [], ◌∷◌}
-use Prim.Native.Nat.{ℕ, ◌*◌, ◌≤◌, ◌<◌}
+use Prim.Native.Nat.{ℕ, ◌*◌, ◌-◌, ◌≤◌, ◌<◌}
 use native.Mathlib.Omega.{arith}
 use borrow.Author.Tests.{lt-ltb, le-ltb, le-leb, lt-leb}
-use lib.ListN.{length}
+use lib.ListN.{length, take, drop}
+use lib.Seq.{get_or-take, length-take-le}
 use Rattle.counting.specs.Lists.{at}
 use Rattle.counting.specs.Least.{pick}
+use Rattle.counting.proofs.Parts.{part_at}
 use Rattle.automaton.specs.Machine.{Machine, Lawful}
 use Rattle.automaton.specs.Layers.{layer, rounds, classes}
 use Rattle.automaton.specs.Telling.{Telling, apart, telling, depth, word_from}
@@ -23,24 +25,40 @@ use Rattle.table.proofs.Leavings.{file_refused, file_given, refuses_here, refuse
 use Rattle.table.proofs.Openings.{good_given}
 use Rattle.table.proofs.Handing.{table_machine}
 use Rattle.layering.specs.Layered.{InLayer, Settled}
+use Rattle.telling.specs.declared.climbing.LastLayer.{LastLayer}
 use Rattle.telling.specs.Kept.{Keeps}
 use Rattle.telling.specs.Calls.{spoken, tell_of, tell_leaves}
 
--- once the rounds have settled, the work slice keeps all layers
-pub settled_keeps : (M : Machine) (before after : List ℕ) (r : ℕ) → Settled M before after r → Keeps M M.size after
-settled_keeps M before after r s = record { size = refl; layered = subst (λ (i : ℕ). InLayer M i after) s.last s.layered }
+-- once the rounds have settled, the last layer stands in three parts of the work slice
+module _ (M : Machine) (before after : List ℕ) (r : ℕ) (s : Settled M before after r) where
+  layered : InLayer M (rounds M) after
+  layered = subst (λ (i : ℕ). InLayer M i after) s.last s.layered
+
+  pub settled_names : (x : ℕ) → x < M.size → at (take M.size after) x ≡ at (layer M (rounds M)) x
+  settled_names x l = get_or-take M.size after x 0 l ∙ layered.names x l
+
+  pub settled_keeps : 6 * M.size ≤ length before → (last : LastLayer) → last.names.now ≡ take M.size after
+      → last.births.now ≡ take (4 * M.size - 3 * M.size) (drop (3 * M.size) after)
+      → last.parents.now ≡ take (5 * M.size - 4 * M.size) (drop (4 * M.size) after)
+      → Keeps M last
+  settled_keeps room last names births parents = record {
+    size = sym (ap length names ∙ length-take-le M.size after (omega (arith, s.long)));
+    names = λ x l. rw names (settled_names x l);
+    births = λ c l e. rw (births, part_at (4 * M.size - 3 * M.size) (3 * M.size) after c (omega arith)) (layered.births c l e);
+    parents = λ c l e u. rw (parents, part_at (5 * M.size - 4 * M.size) (4 * M.size) after c (omega arith)) (layered.parents c l e u);
+  }
 
 module _ (M : Machine) (lawful : Lawful M) (p q : ℕ) (k : p < M.size) (l : q < M.size) (work word : List ℕ) where
-  module _ (after : List ℕ) (h : Keeps M M.size after) where
-    named : (x : ℕ) → x < M.size → at after x ≡ at (classes M) x
+  module _ (names : List ℕ) (h : (x : ℕ) → x < M.size → at names x ≡ at (layer M (rounds M)) x) where
+    name_is : (x : ℕ) → x < M.size → at names x ≡ at (classes M) x
     unfolding classes
-    named x m = h.layered.names x m
+    name_is x m = h x m
 
     -- one last name
-    pub spoken_alike : at after p ≡ at after q → left (gives []) (work ∷ word ∷ []) ≡ spoken (telling M p q) work word
+    pub spoken_alike : at names p ≡ at names q → left (gives []) (work ∷ word ∷ []) ≡ spoken (telling M p q) work word
     unfolding spoken
     spoken_alike e =
-        sym (ap (λ (t : Telling). spoken t work word) ((telling_alike M lawful p q k l).1 ((classes_same M lawful p q k l).0 (sym (named p k) ∙ e ∙ named q l))))
+        sym (ap (λ (t : Telling). spoken t work word) ((telling_alike M lawful p q k l).1 ((classes_same M lawful p q k l).0 (sym (name_is p k) ∙ e ∙ name_is q l))))
 
   module _ (d : ℕ) (e : d ≡ depth M p q) (m : d ≤ rounds M) where
     word_long : length (word_from M d p q) ≡ d

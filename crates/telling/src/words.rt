@@ -7,7 +7,7 @@ ghost use Rattle.table.specs.Leaving.{left};
 ghost use Rattle.table.specs.Tables.{machine};
 ghost use Rattle.telling.specs.Calls.{told, spoken, tell_leaves};
 
-use crate::climbing::parted_in;
+use crate::climbing::LastLayer;
 use crate::writing::write_word;
 use layering::rounds::find_classes;
 use lending::{clear, number_at};
@@ -30,17 +30,23 @@ fn find_word(
 {
     let n = table.nexts.sizes.states;
     find_classes(table, work);
-    if number_at(work, p) == number_at(work, q) {
+    let lists = &work[..];
+    let last = LastLayer {
+        names: &lists[..n],
+        births: &lists[3 * n..4 * n],
+        parents: &lists[4 * n..5 * n],
+    };
+    if number_at(last.names, p) == number_at(last.names, q) {
         return Ok(None);
     }
-    let depth = parted_in(work, n, p, q);
+    let depth = last.parted_in(p, q);
     if word.len() < depth {
         return Err(Refusal {
             kind: Kind::Room,
             place: depth,
         });
     }
-    write_word(&table.nexts, work, p, q, depth, word);
+    write_word(&table.nexts, &last, p, q, depth, word);
     Ok(Some(depth))
 }
 

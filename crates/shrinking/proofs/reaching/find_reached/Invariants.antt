@@ -1,4 +1,4 @@
--- The loop's invariant of `shrinking::reaching::find_reached`: the start and only reached states are marked; the rest is as it was.
+-- The loop's invariant of `shrinking::reaching::find_reached`: the start and only reached states are marked.
 use Prim.Native.Nat.{ℕ, ◌≤◌}
 use mathlib.Core.Path.{◌≡◌}
 use lib.Dec.{eqb}
@@ -10,8 +10,7 @@ use Rattle.shrinking.specs.Reached.{Sound}
 use Rattle.shrinking.proofs.reaching.find_reached.Given as goal
 
 abbrev pub invariant-loop : goal.invariant-loop
-invariant-loop l =
-    Sound (unmarked l.nexts) l.work × (length l.work ≡ length l.initial.work) × ((i : ℕ) → l.nexts.sizes.states ≤ i → at l.work i ≡ at l.initial.work i)
+invariant-loop l = Sound (unmarked l.nexts) l.reached
 
 abbrev pub decreases-loop : goal.decreases-loop
-decreases-loop l = count l.nexts.sizes.states (λ x. eqb (at l.work x) 0)
+decreases-loop l = count l.nexts.sizes.states (λ x. eqb (at l.reached x) 0)

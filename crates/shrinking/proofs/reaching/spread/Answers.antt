@@ -16,11 +16,11 @@ pub loop-a-preserved : goal.loop-a-preserved
 loop-a-preserved c =
     let l = c.loop-a in
     let x = c.next_of-next in
-    spread_more _ c.args.q l.a c.args.work.now l.work l.new l.invariant x.result x.ensures.value x.ensures.inside c.requires.room c.requires.small _
+    spread_more _ c.args.q l.a c.args.reached.now l.reached l.new l.invariant x.result x.ensures.value x.ensures.inside (omega arith) c.requires.small _
     (ap (λ (y : ℕ). l.new || eqb y 0) c.number_at.ensures.value)
 
 pub returns : goal.returns
 returns c =
     let l = c.loop-a in
     let e : l.a ≡ c.args.nexts.now.sizes.signs = omega (arith, c.loop-a-test.false) in
-    subst (λ (a : ℕ). Spread (unmarked c.args.nexts.now) c.args.q a c.args.work.now l.work l.new) e l.invariant
+    subst (λ (a : ℕ). Spread (unmarked c.args.nexts.now) c.args.q a c.args.reached.now l.reached l.new) e l.invariant

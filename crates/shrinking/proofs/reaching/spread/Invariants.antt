@@ -4,4 +4,4 @@ use Rattle.shrinking.specs.Reached.{Spread}
 use Rattle.shrinking.proofs.reaching.spread.Given as goal
 
 abbrev pub invariant-loop-a : goal.invariant-loop-a
-invariant-loop-a l = Spread (unmarked l.nexts) l.q l.a l.initial.work l.work l.new
+invariant-loop-a l = Spread (unmarked l.nexts) l.q l.a l.initial.reached l.reached l.new

@@ -11,9 +11,9 @@ loop-q-init c = sweep_none _ (held_lawful [] c.args.nexts.now.held) _ c.requires
 pub loop-q-preserved : goal.loop-q-preserved
 loop-q-preserved c =
     let l = c.loop-q in
-    sweep_more _ (held_lawful [] c.args.nexts.now.held) l.q c.loop-q-test.true c.args.work.now l.work _ l.new _ _ c.requires.sound l.invariant c.spread_marked-new.ensures refl
+    sweep_more _ (held_lawful [] c.args.nexts.now.held) l.q c.loop-q-test.true c.args.reached.now l.reached _ l.new _ _ c.requires.sound l.invariant c.spread_marked-new.ensures refl
 
 pub returns : goal.returns
 returns c =
     let l = c.loop-q in
-    sweep_done _ (held_lawful [] c.args.nexts.now.held) l.q c.args.work.now l.work l.new c.loop-q-test.false l.invariant
+    sweep_done _ (held_lawful [] c.args.nexts.now.held) l.q c.args.reached.now l.reached l.new c.loop-q-test.false l.invariant

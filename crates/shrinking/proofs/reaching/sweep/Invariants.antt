@@ -4,4 +4,4 @@ use Rattle.shrinking.proofs.Sweeping.{Sweeping}
 use Rattle.shrinking.proofs.reaching.sweep.Given as goal
 
 abbrev pub invariant-loop-q : goal.invariant-loop-q
-invariant-loop-q l = Sweeping (unmarked l.nexts) l.q l.initial.work l.work l.new
+invariant-loop-q l = Sweeping (unmarked l.nexts) l.q l.initial.reached l.reached l.new

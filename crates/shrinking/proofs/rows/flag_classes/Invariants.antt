@@ -3,4 +3,4 @@ use Rattle.shrinking.specs.Reached.{Flagged}
 use Rattle.shrinking.proofs.rows.flag_classes.Given as goal
 
 abbrev pub invariant-loop-q : goal.invariant-loop-q
-invariant-loop-q l = Flagged l.n l.q l.initial.work l.work
+invariant-loop-q l = Flagged l.reached l.classes l.q l.flags

@@ -3,4 +3,4 @@ use Rattle.shrinking.specs.Reached.{Numbered}
 use Rattle.shrinking.proofs.rows.number_rows.Given as goal
 
 abbrev pub invariant-loop-c : goal.invariant-loop-c
-invariant-loop-c l = Numbered l.n l.c l.initial.work l.work l.rows
+invariant-loop-c l = Numbered l.flags l.c l.numbers l.rows l.count

@@ -10,14 +10,14 @@ use Rattle.table.specs.Tables.{machine}
 use Rattle.table.specs.declared.tables.Table.{Table}
 use Rattle.shrinking.specs.Written.{file_length}
 use Rattle.shrinking.specs.Found.{RowsFound}
-use Rattle.shrinking.proofs.ShrinkWays.{shrink_refused, shrink_narrow, shrink_short, shrink_made}
+use Rattle.shrinking.proofs.ShrinkWays.{rows_long, count_most, lent_writable, shrink_refused, shrink_narrow, shrink_short, shrink_made}
 use native.Mathlib.Omega.{arith}
 use Rattle.shrinking.proofs.shrinks.shrink.Goals as goal
 
 nexts_most : (t : Table) {work after : List ℕ} {count takes : ℕ} → RowsFound (machine t) work after count takes → count * t.nexts.sizes.signs ≤ 32000
-nexts_most t {count = count} f =
+nexts_most t {work} {after} {count} {takes} f =
     let z = t.nexts.sizes in
-    omega (arith, mul-le-mul_left z.signs f.writable.most, mul_comm z.signs count, mul_comm z.signs z.states, t.nexts.held.range.nexts_most)
+    omega (arith, mul-le-mul_left z.signs (count_most (machine t) work after count takes f), mul_comm z.signs count, mul_comm z.signs z.states, t.nexts.held.range.nexts_most)
 
 pub returns-in_err-table : goal.returns-in_err-table
 returns-in_err-table c =
@@ -39,7 +39,7 @@ overflow_mul-length-2 c = omega (arith, nexts_most c.in_ok-table.table c.find_ro
 pub overflow_add-length-3 : goal.overflow_add-length-3
 overflow_add-length-3 c =
     let t = c.in_ok-table.table in
-    omega (arith, nexts_most t c.find_rows-rows.ensures, c.find_rows-rows.ensures.writable.most, t.nexts.held.range.states_most)
+    omega (arith, nexts_most t c.find_rows-rows.ensures, count_most (machine t) c.args.work.now c.find_rows-rows.new.work c.find_rows-rows.result.count c.find_rows-rows.result.takes c.find_rows-rows.ensures, t.nexts.held.range.states_most)
 
 pub returns-then-out-length : goal.returns-then-out-length
 returns-then-out-length c =
@@ -50,7 +50,14 @@ returns-then-out-length c =
     ∙ shrink_short a.file.now t c.in_ok-table.ensures a.work.now a.out.now (omega (arith, c.if-work-room.false)) c.find_rows-rows.new.work r.count r.takes c.find_rows-rows.ensures c.if-out-length.true
 
 pub write_file-requires : goal.write_file-requires
-write_file-requires c = record { marks = c.in_ok-table.table.sized; writable = c.find_rows-rows.ensures.writable; room = omega (arith, c.if-out-length.false) }
+write_file-requires c =
+    let t = c.in_ok-table.table in
+    let f = c.find_rows-rows in
+    record {
+      marks = t.sized;
+      writable = lent_writable (machine t) c.args.work.now f.new.work f.result.count f.result.takes f.ensures;
+      room = rw (rows_long (machine t) c.args.work.now f.new.work f.result.count f.result.takes f.ensures) (omega (arith, c.if-out-length.false));
+    }
 
 pub returns : goal.returns
 returns c =

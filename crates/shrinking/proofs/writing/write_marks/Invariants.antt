@@ -5,4 +5,4 @@ use Rattle.shrinking.specs.Written.{marks_bytes}
 use Rattle.shrinking.proofs.writing.write_marks.Given as goal
 
 abbrev pub invariant-loop-i : goal.invariant-loop-i
-invariant-loop-i l = l.out ≡ sets l.initial.out 12 (marks_bytes l.n l.marks l.work l.i)
+invariant-loop-i l = l.out ≡ sets l.initial.out 12 (marks_bytes l.marks l.rows l.i)

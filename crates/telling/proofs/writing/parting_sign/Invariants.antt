@@ -3,4 +3,4 @@ use Rattle.telling.proofs.Spellings.{Unparted}
 use Rattle.telling.proofs.writing.parting_sign.Given as goal
 
 abbrev pub invariant-loop-a : goal.invariant-loop-a
-invariant-loop-a l = Unparted l.n l.signs l.nexts.bytes.now l.work l.p l.q l.layer l.a
+invariant-loop-a l = Unparted l.nexts l.last l.p l.q l.layer l.a

@@ -3,5 +3,4 @@ use Rattle.telling.proofs.Spellings.{Spelling}
 use Rattle.telling.proofs.writing.write_word.Given as goal
 
 abbrev pub invariant-loop-i : goal.invariant-loop-i
-invariant-loop-i l =
-    Spelling l.nexts.sizes.states l.nexts.sizes.signs l.nexts.sizes.start l.nexts.bytes.now l.work l.p l.q l.depth l.initial.word l.word l.one l.other l.i
+invariant-loop-i l = Spelling l.nexts l.last l.p l.q l.depth l.initial.word l.word l.one l.other l.i
