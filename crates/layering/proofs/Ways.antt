@@ -1,5 +1,5 @@
 -- The ways out of the layered call, each with its facts.
-use mathlib.Core.Path.{◌≡◌, sym, ap, ap₂, ◌∙◌}
+use mathlib.Core.Path.{◌≡◌, sym, ap, ap₂, subst₂, ◌∙◌}
 use mathlib.Core.List.{List, [], ◌∷◌}
 use Prim.Native.Nat.{ℕ, ◌*◌, ◌≤◌, ◌<◌}
 use native.Mathlib.Omega.{arith}
@@ -17,12 +17,14 @@ use Rattle.lending.proofs.Memories.{cleared_same}
 use Rattle.table.specs.Answers.{gives, refuses}
 use Rattle.table.specs.Judging.{judged}
 use Rattle.table.specs.Leaving.{left}
+use Rattle.table.specs.Accepted.{Good}
+use Rattle.table.specs.Encoding.{machine_in}
 use Rattle.table.specs.Tables.{machine, TableOf}
 use Rattle.table.specs.declared.answer.Sizes.{Sizes}
 use Rattle.table.specs.declared.tables.Table.{Table}
 use Rattle.table.proofs.Leavings.{file_refused, file_given, refuses_here, refuses_not}
 use Rattle.table.proofs.Openings.{good_given}
-use Rattle.table.proofs.Handing.{table_machine}
+use Rattle.table.proofs.Handing.{marks_in, nexts_in, machine_is}
 use Rattle.layering.specs.Layered.{Settled}
 use Rattle.layering.specs.Calls.{layers_of, layers_leave}
 
@@ -47,13 +49,14 @@ module _ (M : Machine) (before after : List ℕ) (r : ℕ) (s : Settled M before
   unfolding class_count
   count_is = count_cong M.size _ _ (λ x l. ap (λ (c : ℕ). eqb c x) (named x l))
 
-module _ (file : List ℕ) (t : Table) (o : TableOf file t) (work result : List ℕ) where
-  abbrev z : Sizes
-  z = t.nexts.sizes
+module _ (file : List ℕ) (z : Sizes) (g : Good file z) (work result : List ℕ) where
+  -- the machine whose bodies the call hands on
+  abbrev pub machine_handed : Machine
+  machine_handed = machine_in z.states z.signs z.start (marks_in file z) (nexts_in file z)
 
-  given : layers_leave file work result ≡ layers_of (machine t) work result
+  given : layers_leave file work result ≡ layers_of machine_handed work result
   unfolding layers_leave
-  given = file_given file (work ∷ result ∷ []) _ (good_given o.good) ∙ ap (λ (M : Machine). layers_of M work result) (sym (table_machine o))
+  given = file_given file (work ∷ result ∷ []) _ (good_given g) ∙ ap (λ (M : Machine). layers_of M work result) (sym (machine_is file z g))
 
   pub layers_narrow : length work < 16 * z.states → left (refuses 11 (16 * z.states)) (work ∷ result ∷ []) ≡ layers_leave file work result
   unfolding layers_of
@@ -68,14 +71,32 @@ module _ (file : List ℕ) (t : Table) (o : TableOf file t) (work result : List 
         ∙ refuses_not 11 (16 * z.states) (work ∷ result ∷ []) _ (le-ltb (length work) (16 * z.states) room)
         ∙ refuses_here 12 z.states (cleared (16 * z.states) work ∷ result ∷ []) _ (lt-ltb (length result) z.states l))
 
-    pub layers_found : z.states ≤ length result → (after : List ℕ) (r : ℕ) → Settled (machine t) work after r
+    pub layers_found : z.states ≤ length result → (after : List ℕ) (r : ℕ) → Settled machine_handed work after r
         → left (gives (class_count z.states after ∷ r ∷ [])) (cleared (16 * z.states) after ∷ written (take z.states after) result ∷ []) ≡ layers_leave file work result
     unfolding layers_of
     layers_found l after r s =
         ap₂ left
-        (ap₂ (λ (m i : ℕ). gives (m ∷ i ∷ [])) (count_is (machine t) work after r s) s.last)
-        (ap₂ (λ (w c : List ℕ). w ∷ written c result ∷ []) (cleared_same (16 * z.states) after work s.long (λ j h. s.beyond j (omega arith))) (names_are (machine t) work after r s (omega arith)))
+        (ap₂ (λ (m i : ℕ). gives (m ∷ i ∷ [])) (count_is machine_handed work after r s) s.last)
+        (ap₂ (λ (w c : List ℕ). w ∷ written c result ∷ []) (cleared_same (16 * z.states) after work s.long (λ j h. s.beyond j (omega arith))) (names_are machine_handed work after r s (omega arith)))
         ∙ sym
         (given
         ∙ refuses_not 11 (16 * z.states) (work ∷ result ∷ []) _ (le-ltb (length work) (16 * z.states) room)
         ∙ refuses_not 12 z.states (cleared (16 * z.states) work ∷ result ∷ []) _ (le-ltb (length result) z.states l))
+
+-- the same of a table that is lent from the file
+module _ (file : List ℕ) (t : Table) (o : TableOf file t) (work result : List ℕ) where
+  abbrev n : ℕ
+  n = t.nexts.sizes.states
+
+  pub lent_narrow : length work < 16 * n → left (refuses 11 (16 * n)) (work ∷ result ∷ []) ≡ layers_leave file work result
+  lent_narrow = layers_narrow file t.nexts.sizes o.good work result
+
+  module _ (room : 16 * n ≤ length work) where
+    pub lent_short : length result < n → left (refuses 12 n) (cleared (16 * n) work ∷ result ∷ []) ≡ layers_leave file work result
+    lent_short = layers_short file t.nexts.sizes o.good work result room
+
+    pub lent_found : n ≤ length result → (after : List ℕ) (r : ℕ) → Settled (machine t) work after r
+        → left (gives (class_count n after ∷ r ∷ [])) (cleared (16 * n) after ∷ written (take n after) result ∷ []) ≡ layers_leave file work result
+    lent_found l after r s =
+        layers_found file t.nexts.sizes o.good work result room l after r
+        (subst₂ (λ (marks nexts : List ℕ). Settled (machine_in t.nexts.sizes.states t.nexts.sizes.signs t.nexts.sizes.start marks nexts) work after r) o.marks o.nexts s)

@@ -33,7 +33,7 @@ fn write_names(work: &[u16], n: usize, res: &mut [u16]) -> usize
 }
 
 // The classes by layers. Refuses 1 to 8 for the file, 11 at 16 × n, 12 at n; else the class names stand at the front of the result.
-#[tactic(auto, using(crate::proofs::Ways::layers_refused, crate::proofs::Ways::layers_narrow, crate::proofs::Ways::layers_short, crate::proofs::Ways::layers_found))]
+#[tactic(auto, using(crate::proofs::Ways::layers_refused, crate::proofs::Ways::lent_narrow, crate::proofs::Ways::lent_short, crate::proofs::Ways::lent_found))]
 pub fn layers(file: &[u8], work: &mut [u16], res: &mut [u16]) -> Result<Counts, Refusal>
     ensures { left (told result) (work.new ∷ res.new ∷ []) ≡ layers_leave file.now work.old res.old }
 {

@@ -68,6 +68,7 @@ fn seek_name(nexts: &NextStates<'_>, rooms: &Rooms<'_>, q: usize) -> Seek
         return Seek::Found(own);
     }
     let bucket = bucket_of(nexts, rooms.names, q);
+    // The links of a bucket, followed to their end; 0, which is never a new name, stands for none, since the links are lent numbers.
     let mut r = number_at(rooms.heads, bucket);
     while r != 0 {
         if number_at(rooms.names, r) == own && same_nexts(nexts, rooms.names, q, r) {
@@ -137,6 +138,7 @@ fn settle(nexts: &NextStates<'_>, rooms: &mut Rooms<'_>) -> usize
     ensures rested { Rested (marked_by nexts.now rooms.old.names.now) rooms.new.names.now rooms.new.births.now rooms.new.parents.now result }
 {
     let mut i = 0;
+    // A loop without end in its head: that there are fewer rounds than states, the proof knows and no test here.
     loop {
         let next = i + 1;
         let changed = run_round(nexts, rooms, next);
