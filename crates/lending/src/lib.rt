@@ -44,7 +44,7 @@ pub fn put_pair(out: &mut [u8], place: usize, value: usize)
     out[place..place + 2].copy_from_slice(&pair);
 }
 
-// One of two numbers, by a test.
+// One of two numbers, by a test: a function of its own, since what a branch says is lost to the calls behind it where it joins.
 pub fn one_of(test: bool, x: usize, y: usize) -> usize
     ensures { result ≡ pick test x y }
 {

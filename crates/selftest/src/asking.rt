@@ -8,20 +8,14 @@ use table::answer::Refusal;
 use table::judging::judge;
 use telling::words::tell;
 
-// Whether the file is refused with this number at this place.
+// Whether the file is refused with this number at this place: the cases give numbers, as the table of refusals does.
 pub(crate) fn is_refused(file: &[u8], number: usize, place: usize) -> bool {
-    match judge(file) {
-        Ok(_) => false,
-        Err(refusal) => refusal.kind.number() == number && refusal.place == place,
-    }
+    judge(file).is_err_and(|refusal| refusal.kind.number() == number && refusal.place == place)
 }
 
 // Whether the file is accepted, with n and k.
 pub(crate) fn is_accepted(file: &[u8], states: usize, signs: usize) -> bool {
-    match judge(file) {
-        Ok(sizes) => sizes.states == states && sizes.signs == signs,
-        Err(_) => false,
-    }
+    judge(file).is_ok_and(|sizes| sizes.states == states && sizes.signs == signs)
 }
 
 // Whether the layered call gives these class names, m and r.
@@ -43,18 +37,12 @@ fn full_splitting(file: &[u8]) -> Result<Tally, Refusal> {
 
 // Whether a full splitting makes so many takes.
 pub(crate) fn takes_are(file: &[u8], takes: usize) -> bool {
-    match full_splitting(file) {
-        Ok(tally) => tally.takes == takes,
-        Err(_) => false,
-    }
+    full_splitting(file).is_ok_and(|tally| tally.takes == takes)
 }
 
-// Whether a full splitting looks at so many entries.
-pub(crate) fn entries_are(file: &[u8], entries: usize) -> bool {
-    match full_splitting(file) {
-        Ok(tally) => tally.entries == entries,
-        Err(_) => false,
-    }
+// Whether a full splitting makes so many takes, and looks at so many entries.
+pub(crate) fn splitting_is(file: &[u8], takes: usize, entries: usize) -> bool {
+    full_splitting(file) == Ok(Tally { takes, entries })
 }
 
 // Whether a run of one take makes this many, and looks at so many entries.
@@ -103,20 +91,15 @@ pub(crate) fn are_alike(file: &[u8], p: usize, q: usize) -> bool {
 pub(crate) fn shrinks_to(file: &[u8], due: &[u8]) -> bool {
     let mut work = [0u16; 144];
     let mut out = [0u8; 64];
-    match shrink(file, &mut work, &mut out) {
-        Ok(size) => size.length == due.len() && out.starts_with(due),
-        Err(_) => false,
-    }
+    let answer = shrink(file, &mut work, &mut out);
+    answer.is_ok_and(|size| size.length == due.len()) && out.starts_with(due)
 }
 
 // Whether the shrunk file has so many rows.
 pub(crate) fn rows_are(file: &[u8], rows: usize) -> bool {
     let mut work = [0u16; 144];
     let mut out = [0u8; 64];
-    match shrink(file, &mut work, &mut out) {
-        Ok(size) => size.rows == rows,
-        Err(_) => false,
-    }
+    shrink(file, &mut work, &mut out).is_ok_and(|size| size.rows == rows)
 }
 
 // Whether the report has these numbers and these class names.

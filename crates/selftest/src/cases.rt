@@ -80,7 +80,7 @@ pub fn t3_cases<P: Print>(output: &mut Output<'_, P>)
         "* T3: 0 and 1 part by 0 0 0 0",
         asking::part_by(&t3, 0, 1, &[0, 0, 0, 0]),
     );
-    let takes = asking::takes_are(&t3, 10) && asking::entries_are(&t3, 10);
+    let takes = asking::splitting_is(&t3, 10, 10);
     output.show("* T3: 10 takes, 10 entries", takes);
 }
 

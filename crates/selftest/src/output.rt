@@ -1,6 +1,6 @@
 // Standard output of the self-test, a line for each case: the first write that fails is kept until the end, and nothing is written after it, so that every case is asked
 // and counted.
-ghost use Rattle.std.specs.Prelude.{◌≡◌, ◌+◌, ◌<◌};
+ghost use Rattle.std.specs.Prelude.{◌≡◌, ◌+◌, ◌<◌, IfOk};
 
 use std::io;
 
@@ -48,7 +48,9 @@ impl<'a, P: Print> Output<'a, P> {
     }
 
     // The counts, or the failure, if a write failed.
-    pub fn finish(self) -> io::Result<Counts> {
+    pub fn finish(self) -> io::Result<Counts>
+        ensures { IfOk result (λ counts. counts ≡ self.entry.counts) }
+    {
         let Output {
             to: _,
             written,

@@ -9,7 +9,8 @@ use crate::answer::{Part, Refusal, Sizes};
 use crate::judging::judge;
 use crate::tables::{Marks, NextStates, Table};
 
-// Where the body of a field stands, of a file of these sizes, which the judging gave. A field is asked by its number and not by an enum, since the C interface asks with any number.
+// Where the body of a field stands, of a file of these sizes, which the judging gave. Here and below a field is asked by its number and not by an enum, and the answer for any other is the empty part, since C asks with any number:
+// `body_of` and `FieldOf` promise it.
 pub fn part_in(sizes: Sizes, number: usize) -> Part
     requires { InRange sizes.states sizes.signs }
     ensures { result ≡ body_in sizes.states sizes.signs number }
@@ -56,9 +57,7 @@ pub fn field_of(file: &[u8], sizes: Sizes, number: usize) -> &[u8]
     ensures { PartOf file.entry (body_in sizes.states sizes.signs number).place (body_in sizes.states sizes.signs number).length result }
 {
     let part = part_in(sizes, number);
-    let place = part.place;
-    let size = part.length;
-    slice_of(file, place, size)
+    slice_of(file, part.place, part.length)
 }
 
 // The body of field 1, 2 or 3 as the part of the lent file where it stands; the empty part at its start for a refused file or any
@@ -67,9 +66,7 @@ pub fn field(file: &[u8], number: usize) -> &[u8]
     ensures { FieldOf file.entry number result }
 {
     let part = part_of(file, number);
-    let place = part.place;
-    let size = part.length;
-    slice_of(file, place, size)
+    slice_of(file, part.place, part.length)
 }
 
 // The table in a file, or the refusal of the file. Judges once.

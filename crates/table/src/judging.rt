@@ -13,7 +13,7 @@ pub fn judge(file: &[u8]) -> Result<Sizes, Refusal>
     let sizes = read_sizes(file)?;
     let n = sizes.states;
     let m = n * sizes.signs;
-    let _marks = read_marks(file, n)?;
+    read_marks(file, n)?;
     let nexts = read_nexts(file, n, m)?;
     let end = nexts.place + nexts.length;
     if end < file.len() {

@@ -70,7 +70,7 @@ pub fn is_outside(n: usize, k: usize) -> bool
 pub fn read_sizes(file: &[u8]) -> Result<Sizes, Refusal>
     ensures { told result ≡ sizes_due file.now }
 {
-    let _head = read_field(file, 0, 1, 6)?;
+    read_field(file, 0, 1, 6)?;
     let states = pair_at(file, 3);
     let signs = pair_at(file, 5);
     let start = pair_at(file, 7);
@@ -131,7 +131,7 @@ pub fn first_bad_next(nexts: &[u8], n: usize, m: usize) -> Option<usize>
     None
 }
 
-// Field 3: m next states.
+// Field 3: m next states. Beside `read_marks` a function of its own, as is the search above: the test, its width, the refusal and its place all differ, and one function for both would take them as four parameters.
 pub fn read_nexts(file: &[u8], n: usize, m: usize) -> Result<Part, Refusal>
     requires { (n ≤ 1024) × (m ≤ 32000) }
     ensures { told_part result ≡ nexts_due file.now n m }
