@@ -26,6 +26,7 @@ pub fn take_one(nexts: &NextStates<'_>, rooms: &mut Rooms, q: usize) -> Look
     ensures taken { Taken (unmarked nexts.now) rooms.old rooms.new result.entries }
     ensures idle { result.split ≡ false → (p : ℕ) → p < q → at rooms.new.pendings.now p ≡ 0 }
 {
+    // Each room by itself, since a pass uses several at once.
     let sizes = &mut *rooms.sizes;
     let firsts = &mut *rooms.firsts;
     let gones = &mut *rooms.gones;
