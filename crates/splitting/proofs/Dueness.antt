@@ -3,7 +3,7 @@ use mathlib.Core.Path.{◌≡◌, refl, sym, ap, ◌∙◌}
 use mathlib.Core.Logic.{◌≢◌}
 use mathlib.Core.Bool.{Bool, true, false, not, ◌&&◌, true≢false}
 use mathlib.Core.List.{List}
-use Prim.Native.Nat.{ℕ, suc, pred, ◌*◌, ◌≤◌, ◌<◌}
+use Prim.Native.Nat.{ℕ, suc, pred, ◌≤◌, ◌<◌}
 use native.Mathlib.Decide.{ℕ_discrete}
 use native.Mathlib.Omega.{arith}
 use borrow.Author.Tests.{eq-eqb, ne_eqb}
@@ -20,12 +20,12 @@ use Rattle.automaton.specs.Machine.{Machine, Lawful}
 use Rattle.refining.specs.Lists.{Split, WellFormed, waiting}
 use Rattle.refining.specs.Take.{taken_class, taken_sign, take as take_of, entries}
 use Rattle.refining.proofs.Points as points
-use Rattle.splitting.specs.Work.{pending_of, class_in, pending_in, lists_in, leads_to, goes_by, goer, first_goer, Classed}
-use Rattle.counting.proofs.Parts.{part_at, part_long}
+use Rattle.splitting.specs.declared.rooms.Rooms.{Rooms}
+use Rattle.splitting.specs.Work.{lists_of, leads_to, goes_by, goer, first_goer, Classed, Sized}
 use Rattle.splitting.proofs.Divisions.{first_is, new_name, gone_none, gone_some}
 
 -- well_formed lists are classed
-classed_formed : (n k : ℕ) (s : Split) → n ≤ length s.class → WellFormed n k s → Classed n s.class
+pub classed_formed : (n k : ℕ) (s : Split) → n ≤ length s.class → WellFormed n k s → Classed n s.class
 classed_formed n k s room w = record { room = room; low = w.low; named = w.named }
 
 -- Class q with sign a is the pair that is due.
@@ -38,18 +38,18 @@ pub record Due (M : Machine) (class pending : List ℕ) (q a : ℕ) : Type 0 whe
   pub sign : at pending q ≡ suc a
   pub first : (p : ℕ) → p < q → at pending p ≡ 0
 
--- on the lists in the work slice
-pub due_in : (M : Machine) (work : List ℕ) (q a : ℕ) → Lawful M → 8 * M.size ≤ length work → WellFormed M.size M.signs (lists_in M.size work) → q < M.size → pending_of M.size work q ≡ suc a
-    → ((p : ℕ) → p < q → pending_of M.size work p ≡ 0)
-    → Due M (class_in M.size work) (pending_in M.size work) q a
-due_in M work q a lawful room formed within sign first = record {
+-- in rooms
+pub due_in : (M : Machine) (w : Rooms) (q a : ℕ) → Lawful M → Sized M.size w → WellFormed M.size M.signs (lists_of w) → q < M.size → at w.pendings.now q ≡ suc a
+    → ((p : ℕ) → p < q → at w.pendings.now p ≡ 0)
+    → Due M w.classes.now w.pendings.now q a
+due_in M w q a lawful room formed within sign first = record {
   lawful = lawful;
-  class_room = omega (arith, part_long M.size (6 * M.size) work (omega arith));
-  pending_room = omega (arith, part_long M.size (7 * M.size) work (omega arith));
+  class_room = omega (arith, room.classes);
+  pending_room = omega (arith, room.pendings);
   formed = formed;
   within = within;
-  sign = part_at M.size (7 * M.size) work q within ∙ sign;
-  first = λ p l. part_at M.size (7 * M.size) work p (omega arith) ∙ first p l;
+  sign = sign;
+  first = first;
 }
 
 module _ (M : Machine) (class pending : List ℕ) (q a : ℕ) (d : Due M class pending q a) where

@@ -1,5 +1,6 @@
 -- Laws of the splitting in lent memory.
 pub mod Places
+pub mod Joining
 pub mod Columns
 pub mod Unleading
 pub mod Divisions
@@ -10,7 +11,6 @@ pub mod Sharing
 pub mod Goers
 pub mod Renaming
 pub mod Copying
-pub mod Sizing
 pub mod Progress
 pub mod RunWays
 pub mod RunUniqueness

@@ -4,34 +4,28 @@ use mathlib.Core.List.{List}
 use Prim.Native.Nat.{ℕ, ◌+◌, ◌*◌, ◌≤◌, ◌<◌}
 use native.Mathlib.Omega.{arith}
 use lib.ListN.{length}
+use lib.Seq.{ext_get_or}
 use Rattle.counting.specs.Lists.{at}
-use Rattle.counting.proofs.Parts.{part_at, part_is, part_long}
+use Rattle.counting.proofs.Parts.{part_at, part_long}
 use Rattle.refining.specs.Lists.{Split}
-use Rattle.splitting.specs.Work.{class_of, pending_of, class_in, pending_in, lists_in, Classed}
+use Rattle.splitting.specs.Work.{class_in, pending_in, lists_in}
 
--- the class read of a state is the one that it had, where that has not changed, and it is a state
-pub class_read : (n x r : ℕ) (before after : List ℕ) → x < n
-    → at after (6 * n + x) ≡ at before (6 * n + x)
-    → r ≡ at after (6 * n + x)
-    → r ≡ at (class_in n before) x
-class_read n x r before after t same e = e ∙ same ∙ sym (part_at n (6 * n) before x t)
-
-pub class_within : (n x r : ℕ) (class : List ℕ) → Classed n class → x < n → r ≡ at class x → r < n
-class_within n x r class d t e = omega (arith, e, d.low x t)
+-- two lists are a splitting's that has their numbers
+pub split_is : (n : ℕ) (class pending : List ℕ) (s : Split) → (length class ≡ n) × (length pending ≡ n) → (length s.class ≡ n) × (length s.pending ≡ n)
+    → ((x : ℕ) → x < n → at class x ≡ at s.class x)
+    → ((x : ℕ) → x < n → at pending x ≡ at s.pending x)
+    → record { class = class; pending = pending } ≡ s
+split_is n class pending s room long c p =
+    let e : class ≡ s.class = ext_get_or 0 class s.class (room.0 ∙ sym long.0) (λ x l. c x (omega (arith, room.0))) in
+    let f : pending ≡ s.pending = ext_get_or 0 pending s.pending (room.1 ∙ sym long.1) (λ x l. p x (omega (arith, room.1))) in
+    λ i. record { class = e i; pending = f i }
 
 -- the two lists in the work slice are a splitting's that has their numbers
 pub lists_are : (n : ℕ) (work : List ℕ) (s : Split) → 8 * n ≤ length work → (length s.class ≡ n) × (length s.pending ≡ n)
-    → ((x : ℕ) → x < n → class_of n work x ≡ at s.class x)
-    → ((x : ℕ) → x < n → pending_of n work x ≡ at s.pending x)
+    → ((x : ℕ) → x < n → at work (6 * n + x) ≡ at s.class x)
+    → ((x : ℕ) → x < n → at work (7 * n + x) ≡ at s.pending x)
     → lists_in n work ≡ s
 lists_are n work s room long c p =
-    let e : class_in n work ≡ s.class = part_is n (6 * n) work s.class (omega arith) long.0 c in
-    let f : pending_in n work ≡ s.pending = part_is n (7 * n) work s.pending (omega arith) long.1 p in
-    λ i. record { class = e i; pending = f i }
-
--- slices that agree on both lists have one splitting
-pub lists_same : (n : ℕ) (v w : List ℕ) → 8 * n ≤ length w → length v ≡ length w → ((i : ℕ) → 6 * n ≤ i → i < 8 * n → at v i ≡ at w i) → lists_in n v ≡ lists_in n w
-lists_same n v w room long same =
-    lists_are n v (lists_in n w) (omega arith) (part_long n (6 * n) w (omega arith), part_long n (7 * n) w (omega arith))
-    (λ x l. same (6 * n + x) (omega arith) (omega arith) ∙ sym (part_at n (6 * n) w x l))
-    (λ x l. same (7 * n + x) (omega arith) (omega arith) ∙ sym (part_at n (7 * n) w x l))
+    split_is n (class_in n work) (pending_in n work) s (part_long n (6 * n) work (omega arith), part_long n (7 * n) work (omega arith)) long
+    (λ x l. part_at n (6 * n) work x l ∙ c x l)
+    (λ x l. part_at n (7 * n) work x l ∙ p x l)

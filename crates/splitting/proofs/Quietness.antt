@@ -7,34 +7,35 @@ use native.Mathlib.Decide.{ℕ_discrete}
 use native.Mathlib.Omega.{arith}
 use borrow.Author.Tests.{eq-eqb, ne_eqb}
 use lib.Dec.{eqb}
+use lib.ListN.{length}
 use Rattle.counting.specs.Lists.{at}
 use Rattle.counting.specs.Counts.{count}
 use Rattle.counting.proofs.Cases.{by_test}
 use Rattle.counting.proofs.Tallies.{and-true, any_iff, count_some, count_more}
 use Rattle.automaton.specs.Machine.{Machine}
-use Rattle.splitting.specs.Work.{size_of, led_of, leads_to, goes_by, some_split, Classed}
+use Rattle.splitting.specs.Work.{leads_to, goes_by, some_split, Classed}
 
-module _ (M : Machine) (class : List ℕ) (q a : ℕ) (classed : Classed M.size class) (work : List ℕ)
-    (sizes : (c : ℕ) → c < M.size → size_of work c ≡ count M.size (λ x. eqb (at class x) c))
-    (leds : (c : ℕ) → c < M.size → led_of M.size work c ≡ count M.size (λ x. eqb (at class x) c && leads_to M class q a x))
-    (whole : some_split M.size work ≡ false) where
+module _ (M : Machine) (class : List ℕ) (q a : ℕ) (classed : Classed M.size class) (size led : List ℕ) (long : length size ≡ M.size)
+    (sizes : (c : ℕ) → c < M.size → at size c ≡ count M.size (λ x. eqb (at class x) c))
+    (leds : (c : ℕ) → c < M.size → at led c ≡ count M.size (λ x. eqb (at class x) c && leads_to M class q a x))
+    (whole : some_split size led ≡ false) where
   abbrev n : ℕ
   n = M.size
 
   abbrev cut : ℕ → Bool
-  cut c = not (eqb (led_of M.size work c) 0) && not (eqb (led_of M.size work c) (size_of work c))
+  cut c = not (eqb (at led c) 0) && not (eqb (at led c) (at size c))
 
   uncut : (c : ℕ) → c < n → cut c ≡ false
   unfolding some_split
-  uncut c l = by_test (cut c) (λ t. absurd (true≢false (sym ((any_iff n cut).1 (c, l, t)) ∙ whole))) (λ t. t)
+  uncut c l = by_test (cut c) (λ t. absurd (true≢false (sym ((any_iff (length size) cut).1 (c, omega arith, t)) ∙ whole))) (λ t. t)
 
   -- none of a class leads, or all do
-  none_leads : (c x : ℕ) → x < n → at class x ≡ c → c < n → led_of n work c ≡ 0 → leads_to M class q a x ≡ false
+  none_leads : (c x : ℕ) → x < n → at class x ≡ c → c < n → at led c ≡ 0 → leads_to M class q a x ≡ false
   none_leads c x l e m z = by_test (leads_to M class q a x)
       (λ t. absurd (omega (arith, leds c m, z, count_some n (λ y. eqb (at class y) c && leads_to M class q a y) x l (ap₂ ◌&&◌ (eq-eqb (at class x) c e) t))))
       (λ t. t)
 
-  all_lead : (c x : ℕ) → x < n → at class x ≡ c → c < n → led_of n work c ≡ size_of work c → leads_to M class q a x ≡ true
+  all_lead : (c x : ℕ) → x < n → at class x ≡ c → c < n → at led c ≡ at size c → leads_to M class q a x ≡ true
   all_lead c x l e m z = by_test (leads_to M class q a x)
       (λ t. t)
       (λ t. absurd (omega (
@@ -48,11 +49,11 @@ module _ (M : Machine) (class : List ℕ) (q a : ℕ) (classed : Classed M.size 
 
   pub nobody_goes : (x : ℕ) → x < n → goes_by M class q a x ≡ false
   unfolding goes_by
-  nobody_goes x l = elim (ℕ_discrete (led_of n work c) 0) [
+  nobody_goes x l = elim (ℕ_discrete (at led c) 0) [
     | yes z ↦ rw (none_leads c x l refl m z, none_leads c c m own m z) refl
-    | no u ↦ elim (ℕ_discrete (led_of n work c) (size_of work c)) [
+    | no u ↦ elim (ℕ_discrete (at led c) (at size c)) [
       | yes z ↦ rw (all_lead c x l refl m z, all_lead c c m own m z) refl
-      | no v ↦ absurd (true≢false (sym (ap₂ ◌&&◌ (ap not (ne_eqb (led_of n work c) 0 u)) (ap not (ne_eqb (led_of n work c) (size_of work c) v))) ∙ uncut c m))
+      | no v ↦ absurd (true≢false (sym (ap₂ ◌&&◌ (ap not (ne_eqb (at led c) 0 u)) (ap not (ne_eqb (at led c) (at size c) v))) ∙ uncut c m))
     ]
   ]
     where

@@ -3,7 +3,15 @@ use Rattle.std.specs.Prelude.{◌≡◌, List, ℕ, ◌+◌, ◌*◌, ◌≤◌,
 use Rattle.counting.specs.Lists.{at}
 use Rattle.automaton.specs.Machine.{Machine}
 use Rattle.refining.specs.Run.{run_lists, run_takes, run_entries}
-use Rattle.splitting.specs.Work.{lists_in}
+use Rattle.splitting.specs.declared.rooms.Rooms.{Rooms}
+use Rattle.splitting.specs.Work.{lists_in, lists_of, Same, Sized}
+
+-- What some takes leave in rooms: the lists of the run, its counts, and the lists as long as they were.
+pub record Ran (M : Machine) (budget : ℕ) (before after : Rooms) (takes looked : ℕ) : Type 0 where
+  pub same : Same before after
+  pub sized : Sized M.size after
+  pub lists : lists_of after ≡ run_lists M budget (lists_of before)
+  pub counts : (takes ≡ run_takes M budget (lists_of before)) × (looked ≡ run_entries M budget (lists_of before))
 
 -- What some takes leave: the lists of the run, its counts, all beyond as it was.
 pub record RanIn (M : Machine) (budget : ℕ) (before after : List ℕ) (takes looked : ℕ) : Type 0 where

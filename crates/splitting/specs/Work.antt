@@ -1,6 +1,7 @@
 -- A take in lent memory. It uses the first 8 × n numbers of the work slice, n each: the size of each class; the first state that goes from it; how many go; the new
--- name of each state; how many states of each class lead into the class taken; the classes of those that do; the class of each state; and its pending.
-use Rattle.std.specs.Prelude.{◌≡◌, ◌≢◌, Bool, not, ◌&&◌, List, ℕ, ◌+◌, ◌*◌, ◌≤◌, ◌<◌, eqb, ltb, length, take, drop}
+-- name of each state; how many states of each class lead into the class taken; the classes of those that do; the class of each state; and its pending. Each pass
+-- works on some of these eight lists.
+use Rattle.std.specs.Prelude.{◌≡◌, ◌≢◌, Bool, not, ◌&&◌, List, ℕ, ◌*◌, ◌≤◌, ◌<◌, eqb, ltb, length, take, drop}
 use Rattle.std.specs.Bool.{beq}
 use Rattle.counting.specs.Lists.{at}
 use Rattle.counting.specs.Least.{pick, least}
@@ -8,31 +9,7 @@ use Rattle.counting.specs.Counts.{any, count}
 use Rattle.automaton.specs.Machine.{Machine}
 use Rattle.refining.specs.Lists.{Split}
 use Rattle.refining.specs.Take.{take as take_of, entries}
-
--- the numbers of a class, and of a state
-abbrev pub size_of : List ℕ → ℕ → ℕ
-size_of work c = at work c
-
-abbrev pub first_of : ℕ → List ℕ → ℕ → ℕ
-first_of n work c = at work (n + c)
-
-abbrev pub gone_of : ℕ → List ℕ → ℕ → ℕ
-gone_of n work c = at work (2 * n + c)
-
-abbrev pub renamed_of : ℕ → List ℕ → ℕ → ℕ
-renamed_of n work x = at work (3 * n + x)
-
-abbrev pub led_of : ℕ → List ℕ → ℕ → ℕ
-led_of n work c = at work (4 * n + c)
-
-abbrev pub touched_of : ℕ → List ℕ → ℕ → ℕ
-touched_of n work j = at work (5 * n + j)
-
-abbrev pub class_of : ℕ → List ℕ → ℕ → ℕ
-class_of n work x = at work (6 * n + x)
-
-abbrev pub pending_of : ℕ → List ℕ → ℕ → ℕ
-pending_of n work x = at work (7 * n + x)
+use Rattle.splitting.specs.declared.rooms.Rooms.{Rooms}
 
 -- the two lists that the takes work on
 abbrev pub class_in : ℕ → List ℕ → List ℕ
@@ -43,6 +20,10 @@ pending_in n work = take n (drop (7 * n) work)
 
 abbrev pub lists_in : ℕ → List ℕ → Split
 lists_in n work = record { class = class_in n work; pending = pending_in n work }
+
+-- the two in their rooms
+abbrev pub lists_of : Rooms → Split
+lists_of w = record { class = w.classes.now; pending = w.pendings.now }
 
 -- the lists of the first n numbers of each slice
 abbrev pub lists : ℕ → List ℕ → List ℕ → Split
@@ -66,53 +47,73 @@ pub record Classed (n : ℕ) (class : List ℕ) : Type 0 where
   pub low : (x : ℕ) → x < n → at class x ≤ x
   pub named : (x : ℕ) → x < n → at class (at class x) ≡ at class x
 
+-- The same rooms, whatever is in them: what is written stays where it was lent.
+pub record Same (before after : Rooms) : Type 0 where
+  pub sizes : after.sizes.ghost_name ≡ before.sizes.ghost_name
+  pub firsts : after.firsts.ghost_name ≡ before.firsts.ghost_name
+  pub gones : after.gones.ghost_name ≡ before.gones.ghost_name
+  pub renamed : after.renamed.ghost_name ≡ before.renamed.ghost_name
+  pub leds : after.leds.ghost_name ≡ before.leds.ghost_name
+  pub touched : after.touched.ghost_name ≡ before.touched.ghost_name
+  pub classes : after.classes.ghost_name ≡ before.classes.ghost_name
+  pub pendings : after.pendings.ghost_name ≡ before.pendings.ghost_name
+
+-- Each of the eight lists has n numbers.
+pub record Sized (n : ℕ) (w : Rooms) : Type 0 where
+  pub sizes : length w.sizes.now ≡ n
+  pub firsts : length w.firsts.now ≡ n
+  pub gones : length w.gones.now ≡ n
+  pub renamed : length w.renamed.now ≡ n
+  pub leds : length w.leds.now ≡ n
+  pub touched : length w.touched.now ≡ n
+  pub classes : length w.classes.now ≡ n
+  pub pendings : length w.pendings.now ≡ n
+
+-- The sizes of the classes after the first x states.
+pub record Counting (x : ℕ) (class size : List ℕ) : Type 0 where
+  pub room : length size ≡ length class
+  pub sizes : (c : ℕ) → c < length class → at size c ≡ count x (λ y. eqb (at class y) c)
+
 -- Between takes: the size of each class, and zeros where a take counts.
-pub record Ready (n : ℕ) (work : List ℕ) : Type 0 where
-  pub room : 8 * n ≤ length work
-  pub sizes : (c : ℕ) → c < n → size_of work c ≡ count n (λ x. eqb (at (class_in n work) x) c)
-  pub firsts : (c : ℕ) → c < n → first_of n work c ≡ 0
-  pub gones : (c : ℕ) → c < n → gone_of n work c ≡ 0
-  pub leds : (c : ℕ) → c < n → led_of n work c ≡ 0
+pub record Ready (n : ℕ) (w : Rooms) : Type 0 where
+  pub room : Sized n w
+  pub sizes : (c : ℕ) → c < n → at w.sizes.now c ≡ count n (λ x. eqb (at w.classes.now x) c)
+  pub firsts : (c : ℕ) → c < n → at w.firsts.now c ≡ 0
+  pub gones : (c : ℕ) → c < n → at w.gones.now c ≡ 0
+  pub leds : (c : ℕ) → c < n → at w.leds.now c ≡ 0
 
 -- The first x states looked at: how many lead into the class taken, how many of each class do, and the classes of those.
-pub record Counted (M : Machine) (class : List ℕ) (q a x : ℕ) (before after : List ℕ) (looked : ℕ) : Type 0 where
-  pub long : length after ≡ length before
+pub record Counted (M : Machine) (class : List ℕ) (q a x : ℕ) (led touch : List ℕ) (looked : ℕ) : Type 0 where
+  pub room : (length led ≡ M.size) × (length touch ≡ M.size)
   pub looks : looked ≡ count x (leads_to M class q a)
-  pub leds : (c : ℕ) → c < M.size → led_of M.size after c ≡ count x (λ y. eqb (at class y) c && leads_to M class q a y)
-  pub touched : (c : ℕ) → c < M.size → led_of M.size after c ≢ 0 → (j : ℕ) × (j < looked) × (touched_of M.size after j ≡ c)
-  pub within : (j : ℕ) → j < looked → touched_of M.size after j < M.size
-  pub below : (i : ℕ) → i < 4 * M.size → at after i ≡ at before i
-  pub beyond : (i : ℕ) → 6 * M.size ≤ i → at after i ≡ at before i
+  pub leds : (c : ℕ) → c < M.size → at led c ≡ count x (λ y. eqb (at class y) c && leads_to M class q a y)
+  pub touched : (c : ℕ) → c < M.size → at led c ≢ 0 → (j : ℕ) × (j < looked) × (at touch j ≡ c)
+  pub within : (j : ℕ) → j < looked → at touch j < M.size
 
 -- some class has states that lead into the class taken, and others
-unfoldable pub some_split : ℕ → List ℕ → Bool
-some_split n work = any n (λ c. not (eqb (led_of n work c) 0) && not (eqb (led_of n work c) (size_of work c)))
+unfoldable pub some_split : List ℕ → List ℕ → Bool
+some_split sizes leds = any (length sizes) (λ c. not (eqb (at leds c) 0) && not (eqb (at leds c) (at sizes c)))
 
 -- The counts of leading states are looked through and set to 0 again.
-pub record Unled (n : ℕ) (before after : List ℕ) (split : Bool) : Type 0 where
+pub record Unled (sizes before after : List ℕ) (split : Bool) : Type 0 where
   pub long : length after ≡ length before
-  pub found : split ≡ some_split n before
-  pub leds : (c : ℕ) → c < n → led_of n after c ≡ 0
-  pub below : (i : ℕ) → i < 4 * n → at after i ≡ at before i
-  pub beyond : (i : ℕ) → 5 * n ≤ i → at after i ≡ at before i
+  pub found : split ≡ some_split sizes before
+  pub leds : (c : ℕ) → c < length sizes → at after c ≡ 0
 
 -- the first of the states below x that goes from class c; 0 where none does
 unfoldable pub first_goer : Machine → List ℕ → ℕ → ℕ → ℕ → ℕ → ℕ
 first_goer M class q a x c = pick (ltb (least x (goer M class q a c)) x) (least x (goer M class q a c)) 0
 
 -- The first x states named anew: a state that goes has the first of its class that goes for its name, any other keeps its name; and how many go from each class.
-pub record Renamed (M : Machine) (class : List ℕ) (q a x : ℕ) (before after : List ℕ) : Type 0 where
-  pub long : length after ≡ length before
-  pub sizes : (c : ℕ) → c < M.size → size_of after c ≡ size_of before c
-  pub firsts : (c : ℕ) → c < M.size → first_of M.size after c ≡ first_goer M class q a x c
-  pub gones : (c : ℕ) → c < M.size → gone_of M.size after c ≡ count x (goer M class q a c)
-  pub renamed : (y : ℕ) → y < x → renamed_of M.size after y ≡ pick (goes_by M class q a y) (least M.size (goer M class q a (at class y))) (at class y)
-  pub beyond : (i : ℕ) → 4 * M.size ≤ i → at after i ≡ at before i
+pub record Renamed (M : Machine) (class : List ℕ) (q a x : ℕ) (first gone name : List ℕ) : Type 0 where
+  pub room : (length first ≡ M.size) × (length gone ≡ M.size) × (length name ≡ M.size)
+  pub firsts : (c : ℕ) → c < M.size → at first c ≡ first_goer M class q a x c
+  pub gones : (c : ℕ) → c < M.size → at gone c ≡ count x (goer M class q a c)
+  pub renamed : (y : ℕ) → y < x → at name y ≡ pick (goes_by M class q a y) (least M.size (goer M class q a (at class y))) (at class y)
 
--- What a take leaves: the lists of the published take, the entries looked at, the work slice ready for the next, and all beyond as it was.
-pub record Taken (M : Machine) (before after : List ℕ) (looked : ℕ) : Type 0 where
-  pub long : length after ≡ length before
-  pub lists : lists_in M.size after ≡ take_of M (lists_in M.size before)
-  pub looks : looked ≡ entries M (lists_in M.size before)
+-- What a take leaves: the lists of the published take, the entries looked at, and the rooms ready for the next.
+pub record Taken (M : Machine) (before after : Rooms) (looked : ℕ) : Type 0 where
+  pub lists : lists_of after ≡ take_of M (lists_of before)
+  pub looks : looked ≡ entries M (lists_of before)
   pub ready : Ready M.size after
-  pub beyond : (i : ℕ) → 8 * M.size ≤ i → at after i ≡ at before i
+  pub same : Same before after

@@ -5,6 +5,7 @@ pub mod copies;
 pub mod hits;
 pub mod lists;
 pub mod parts;
+pub mod rooms;
 pub mod runs;
 pub mod starts;
 pub mod taking;

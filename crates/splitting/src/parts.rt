@@ -1,9 +1,9 @@
 // The passes of a take that splits a class: new names, the pending and sizes of the parts, and the names taken over.
-ghost use Rattle.std.specs.Prelude.{◌≡◌, ℕ, ◌+◌, ◌*◌, ◌<◌, ◌≤◌, length};
+ghost use Rattle.std.specs.Prelude.{◌≡◌, ℕ, ◌<◌, ◌≤◌, length};
 ghost use Rattle.counting.specs.Lists.{at};
 ghost use Rattle.table.specs.Tables.{unmarked};
-ghost use Rattle.splitting.specs.Work.{class_in, first_of, gone_of, Classed, Renamed};
-ghost use Rattle.splitting.specs.Parts.{Named, Parted, Shared, Adopted};
+ghost use Rattle.splitting.specs.Work.{Classed, Renamed};
+ghost use Rattle.splitting.specs.Parts.{numbers, Fit, Named, Parted, Shared};
 
 use crate::hits::leads;
 use lending::{number_at, one_of};
@@ -11,93 +11,105 @@ use table::tables::NextStates;
 
 // Names a state of class c anew: where it goes, by the first of its class that goes.
 #[tactic(auto, unfolding(counting::specs::Least::pick))]
-fn name_anew(work: &mut [u16], n: usize, c: usize, x: usize, goes: bool)
-    requires room { (6 * n ≤ length work.old) × (n ≤ 1024) }
-    requires within { (c < n) × (x < n) }
-    requires small { gone_of n work.old c < 65535 }
-    ensures { Named n c x goes work.old work.new }
+fn name_anew(
+    firsts: &mut [u16],
+    gones: &mut [u16],
+    renamed: &mut [u16],
+    c: usize,
+    x: usize,
+    goes: bool,
+)
+    requires within { (c < length firsts.old) × (c < length gones.old) × (x < length renamed.old) }
+    requires small { (at gones.old c < 65535) × (c < 65536) × (x < 65536) }
+    ensures { Named c x goes firsts.old gones.old renamed.old firsts.new gones.new renamed.new }
 {
-    let name = 3 * n + x;
     if !goes {
-        work[name] = c as u16;
+        renamed[x] = c as u16;
         return;
     }
-    let first = n + c;
-    let gone = 2 * n + c;
-    let noted = number_at(work, first);
+    let noted = number_at(firsts, c);
     let goer = one_of(noted == 0, x, noted);
-    work[first] = goer as u16;
-    work[gone] += 1;
-    work[name] = goer as u16;
+    firsts[c] = goer as u16;
+    gones[c] += 1;
+    renamed[x] = goer as u16;
 }
 
 // Names every state anew, against the classes as they stand.
-pub fn rename(nexts: &NextStates<'_>, work: &mut [u16], q: usize, a: usize)
-    requires classed { Classed nexts.now.sizes.states (class_in nexts.now.sizes.states work.old) }
+pub fn rename(
+    nexts: &NextStates<'_>,
+    classes: &[u16],
+    firsts: &mut [u16],
+    gones: &mut [u16],
+    renamed: &mut [u16],
+    q: usize,
+    a: usize,
+)
+    requires classed { Classed nexts.now.sizes.states classes.now }
     requires sign { a < nexts.now.sizes.signs }
-    requires room { 8 * nexts.now.sizes.states ≤ length work.old }
-    requires idle { (c : ℕ) → c < nexts.now.sizes.states → (first_of nexts.now.sizes.states work.old c ≡ 0) × (gone_of nexts.now.sizes.states work.old c ≡ 0) }
-    ensures { Renamed (unmarked nexts.now) (class_in nexts.now.sizes.states work.old) q a nexts.now.sizes.states work.old work.new }
+    requires room { (length firsts.old ≡ nexts.now.sizes.states) × (length gones.old ≡ nexts.now.sizes.states) × (length renamed.old ≡ nexts.now.sizes.states) }
+    requires idle { (c : ℕ) → c < nexts.now.sizes.states → (at firsts.old c ≡ 0) × (at gones.old c ≡ 0) }
+    ensures { Renamed (unmarked nexts.now) classes.now q a nexts.now.sizes.states firsts.new gones.new renamed.new }
 {
-    // A copy, which stays in registers while the work slice is written.
-    let nexts = *nexts;
-    let n = nexts.sizes.states;
-    let classes = 6 * n;
-    for x in 0..n {
-        let c = number_at(work, classes + x);
-        let own = leads(&nexts, work, classes, x, a, q);
-        let name = leads(&nexts, work, classes, c, a, q);
-        name_anew(work, n, c, x, own != name);
+    for x in 0..nexts.sizes.states {
+        let c = number_at(classes, x);
+        let own = leads(nexts, classes, x, a, q);
+        let name = leads(nexts, classes, c, a, q);
+        name_anew(firsts, gones, renamed, c, x, own != name);
     }
 }
 
 // Shares the pending and the size of a class among its two parts, where it is split.
 #[tactic(auto, unfolding(counting::specs::Least::pick, crate::specs::Parts::kept_pending, crate::specs::Parts::new_pending))]
-fn share_class(work: &mut [u16], n: usize, signs: usize, p: usize)
-    requires room { (8 * n ≤ length work.old) × (n ≤ 1024) × (signs ≤ 64) }
-    requires within { (p < n) × (first_of n work.old p < n) }
-    requires part { (first_of n work.old p ≡ 0 → ⊥) → gone_of n work.old p ≤ at work.old p }
-    ensures { Parted n signs p work.old work.new }
+fn share_class(
+    sizes: &mut [u16],
+    firsts: &mut [u16],
+    gones: &mut [u16],
+    pendings: &mut [u16],
+    signs: usize,
+    p: usize,
+)
+    requires room { (length firsts.old ≡ length sizes.old) × (length gones.old ≡ length sizes.old) × (length pendings.old ≡ length sizes.old) × (signs ≤ 64) }
+    requires within { (p < length sizes.old) × (at firsts.old p < length sizes.old) }
+    requires part { (at firsts.old p ≡ 0 → ⊥) → at gones.old p ≤ at sizes.old p }
+    ensures { Parted signs p (numbers sizes.old firsts.old gones.old pendings.old) (numbers sizes.new firsts.new gones.new pendings.new) }
 {
-    let first = n + p;
-    let r = number_at(work, first);
+    let r = number_at(firsts, p);
     if r == 0 {
         return;
     }
-    let left = 2 * n + p;
-    let gone = number_at(work, left);
-    let kept = number_at(work, p) - gone;
-    let waits = 7 * n + p;
-    let new = 7 * n + r;
-    let old = number_at(work, waits);
+    let gone = number_at(gones, p);
+    let kept = number_at(sizes, p) - gone;
+    let old = number_at(pendings, p);
     let smaller = kept <= gone;
-    work[new] = one_of(smaller, old, signs) as u16;
-    work[waits] = one_of(smaller, signs, old) as u16;
-    work[r] = gone as u16;
-    work[p] = kept as u16;
-    work[first] = 0;
-    work[left] = 0;
+    pendings[r] = one_of(smaller, old, signs) as u16;
+    pendings[p] = one_of(smaller, signs, old) as u16;
+    sizes[r] = gone as u16;
+    sizes[p] = kept as u16;
+    firsts[p] = 0;
+    gones[p] = 0;
 }
 
 // Shares the pending and the sizes of all classes that are split.
-#[tactic(auto, unfolding(counting::specs::Least::pick, crate::specs::Parts::kept_pending, crate::specs::Parts::new_pending))]
-pub fn share(work: &mut [u16], n: usize, signs: usize)
-    requires room { (8 * n ≤ length work.old) × (n ≤ 1024) × (signs ≤ 64) }
-    requires within { (p : ℕ) → p < n → (first_of n work.old p < n) × (gone_of n work.old p ≤ at work.old p) }
-    requires apart { (p : ℕ) → p < n → (first_of n work.old p ≡ 0 → ⊥) → (p < first_of n work.old p) × (first_of n work.old (first_of n work.old p) ≡ 0) }
-    requires single { (p r : ℕ) → p < n → r < n → (first_of n work.old p ≡ 0 → ⊥) → first_of n work.old p ≡ first_of n work.old r → p ≡ r }
-    ensures { Shared n signs n work.old work.new }
+pub fn share(
+    sizes: &mut [u16],
+    firsts: &mut [u16],
+    gones: &mut [u16],
+    pendings: &mut [u16],
+    signs: usize,
+)
+    requires small { signs ≤ 64 }
+    requires fit { Fit (numbers sizes.old firsts.old gones.old pendings.old) }
+    ensures { Shared signs (length sizes.old) (numbers sizes.old firsts.old gones.old pendings.old) (numbers sizes.new firsts.new gones.new pendings.new) }
 {
-    for p in 0..n {
-        share_class(work, n, signs, p);
+    for p in 0..sizes.len() {
+        share_class(sizes, firsts, gones, pendings, signs, p);
     }
 }
 
 // Takes the new names over.
-pub fn adopt(work: &mut [u16], n: usize)
-    requires { (8 * n ≤ length work.old) × (n ≤ 1024) }
-    ensures { Adopted n n work.old work.new }
+pub fn adopt(classes: &mut [u16], renamed: &[u16])
+    requires { length renamed.now ≡ length classes.old }
+    ensures { classes.new ≡ renamed.now }
 {
-    let (front, classes) = work.split_at_mut(6 * n);
-    classes[..n].copy_from_slice(&front[3 * n..4 * n]);
+    classes.copy_from_slice(renamed);
 }

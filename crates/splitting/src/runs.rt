@@ -2,16 +2,16 @@
 ghost use Rattle.std.specs.Prelude.{◌≡◌, not, [], ◌∷◌, ℕ, ◌*◌, ◌<◌, ◌≤◌, eqb, length};
 ghost use Rattle.counting.specs.Lists.{at};
 ghost use Rattle.counting.specs.Least.{IsFirst};
-ghost use Rattle.counting.specs.Counts.{count};
 ghost use Rattle.refining.specs.Lists.{WellFormed};
 ghost use Rattle.table.specs.Tables.{unmarked};
 ghost use Rattle.table.specs.Leaving.{left};
-ghost use Rattle.splitting.specs.Work.{lists_in, class_in, pending_of, size_of, Classed, Ready};
-ghost use Rattle.splitting.specs.Running.{RanIn};
+ghost use Rattle.splitting.specs.Work.{lists_in, lists_of, Classed, Counting, Same, Sized, Ready};
+ghost use Rattle.splitting.specs.Running.{Ran, RanIn};
 ghost use Rattle.splitting.specs.RunCall.{allowed, told_run, run_leaves};
 
 use crate::copies::{copy_in, copy_out};
 use crate::lists::ill_formed;
+use crate::rooms::Rooms;
 use crate::taking::take_one;
 use lending::{clear, number_at, one_of};
 use table::answer::{Kind, Refusal};
@@ -26,63 +26,64 @@ pub struct Tally {
 }
 
 // Counts the states of each class.
-#[tactic(auto, using(counting::proofs::Parts::part_at, counting::proofs::Tallies::count_most), unfolding(counting::specs::Counts::count))]
-fn count_sizes(work: &mut [u16], n: usize)
-    requires room { (8 * n ≤ length work.old) × (n ≤ 1024) }
-    requires classed { Classed n (class_in n work.old) }
-    requires none { (c : ℕ) → c < n → size_of work.old c ≡ 0 }
-    ensures long { length work.new ≡ length work.old }
-    ensures sizes { (c : ℕ) → c < n → size_of work.new c ≡ count n (λ x. eqb (at (class_in n work.old) x) c) }
-    ensures beyond { (i : ℕ) → n ≤ i → at work.new i ≡ at work.old i }
+#[tactic(auto, using(counting::proofs::Tallies::count_most), unfolding(counting::specs::Counts::count))]
+fn count_sizes(classes: &[u16], sizes: &mut [u16])
+    requires room { (length sizes.old ≡ length classes.now) × (length classes.now ≤ 1024) }
+    requires classed { Classed (length classes.now) classes.now }
+    requires none { (c : ℕ) → c < length classes.now → at sizes.old c ≡ 0 }
+    ensures { Counting (length classes.now) classes.now sizes.new }
 {
-    for x in 0..n {
-        let c = number_at(work, 6 * n + x);
-        work[c] += 1;
+    for x in 0..classes.len() {
+        let c = number_at(classes, x);
+        sizes[c] += 1;
     }
 }
 
-// Makes the work slice ready for takes.
-fn make_ready(work: &mut [u16], n: usize)
-    requires room { (8 * n ≤ length work.old) × (n ≤ 1024) }
-    requires classed { Classed n (class_in n work.old) }
-    ensures long { length work.new ≡ length work.old }
-    ensures ready { Ready n work.new }
-    ensures beyond { (i : ℕ) → 6 * n ≤ i → at work.new i ≡ at work.old i }
+// Makes the rooms ready for takes.
+fn make_ready(rooms: &mut Rooms)
+    requires room { (Sized (length rooms.old.classes.now) rooms.old) × (length rooms.old.classes.now ≤ 1024) }
+    requires classed { Classed (length rooms.old.classes.now) rooms.old.classes.now }
+    ensures ready { Ready (length rooms.old.classes.now) rooms.new }
+    ensures lists { lists_of rooms.new ≡ lists_of rooms.old }
+    ensures same { Same rooms.old rooms.new }
 {
-    clear(work, 5 * n);
-    count_sizes(work, n);
+    rooms.sizes.fill(0);
+    rooms.firsts.fill(0);
+    rooms.gones.fill(0);
+    rooms.leds.fill(0);
+    let sizes = &mut *rooms.sizes;
+    let classes = &mut *rooms.classes;
+    count_sizes(classes, sizes);
 }
 
 // The first class that waits. None below a known state waits.
-fn first_waiting(work: &[u16], n: usize, low: usize) -> Option<usize>
-    requires room { (8 * n ≤ length work.now) × (n ≤ 1024) × (low ≤ n) }
-    requires none { (p : ℕ) → p < low → pending_of n work.now p ≡ 0 }
-    ensures { IsFirst n (λ q. not (eqb (pending_of n work.now q) 0)) result }
+fn first_waiting(rooms: &Rooms, low: usize) -> Option<usize>
+    requires low { low ≤ length rooms.now.pendings.now }
+    requires none { (p : ℕ) → p < low → at rooms.now.pendings.now p ≡ 0 }
+    ensures { IsFirst (length rooms.now.pendings.now) (λ q. not (eqb (at rooms.now.pendings.now q) 0)) result }
 {
-    let pending = 7 * n;
-    for q in low..n {
-        if number_at(work, pending + q) != 0 {
+    for q in low..rooms.pendings.len() {
+        if number_at(rooms.pendings, q) != 0 {
             return Some(q);
         }
     }
     None
 }
 
-// Makes takes until the budget is used or nothing waits, on a work slice that is ready.
-fn make_takes(nexts: &NextStates<'_>, budget: usize, work: &mut [u16]) -> Tally
+// Makes takes until the budget is used or nothing waits, in rooms that are ready.
+fn make_takes(nexts: &NextStates<'_>, budget: usize, rooms: &mut Rooms) -> Tally
     requires room { budget ≤ 65535 }
-    requires formed { WellFormed nexts.now.sizes.states nexts.now.sizes.signs (lists_in nexts.now.sizes.states work.old) }
-    requires ready { Ready nexts.now.sizes.states work.old }
-    ensures { RanIn (unmarked nexts.now) budget work.old work.new result.takes result.entries }
+    requires formed { WellFormed nexts.now.sizes.states nexts.now.sizes.signs (lists_of rooms.old) }
+    requires ready { Ready nexts.now.sizes.states rooms.old }
+    ensures { Ran (unmarked nexts.now) budget rooms.old rooms.new result.takes result.entries }
 {
-    let n = nexts.sizes.states;
     let mut entries = 0;
     let mut low = 0;
     for takes in 0..budget {
-        let Some(q) = first_waiting(work, n, low) else {
+        let Some(q) = first_waiting(rooms, low) else {
             return Tally { takes, entries };
         };
-        let look = take_one(nexts, work, q);
+        let look = take_one(nexts, rooms, q);
         // Where a class was split the search begins anew, else at the class just taken.
         low = one_of(look.split, 0, q);
         entries += look.entries;
@@ -99,8 +100,27 @@ pub fn run_takes(nexts: &NextStates<'_>, budget: usize, work: &mut [u16]) -> Tal
     requires formed { WellFormed nexts.now.sizes.states nexts.now.sizes.signs (lists_in nexts.now.sizes.states work.old) }
     ensures { RanIn (unmarked nexts.now) budget work.old work.new result.takes result.entries }
 {
-    make_ready(work, nexts.sizes.states);
-    make_takes(nexts, budget, work)
+    let n = nexts.sizes.states;
+    let (sizes, rest) = work.split_at_mut(n);
+    let (firsts, rest) = rest.split_at_mut(n);
+    let (gones, rest) = rest.split_at_mut(n);
+    let (renamed, rest) = rest.split_at_mut(n);
+    let (leds, rest) = rest.split_at_mut(n);
+    let (touched, rest) = rest.split_at_mut(n);
+    let (classes, rest) = rest.split_at_mut(n);
+    let (pendings, _) = rest.split_at_mut(n);
+    let mut rooms = Rooms {
+        sizes,
+        firsts,
+        gones,
+        renamed,
+        leds,
+        touched,
+        classes,
+        pendings,
+    };
+    make_ready(&mut rooms);
+    make_takes(nexts, budget, &mut rooms)
 }
 
 // A budget above 65,535 counts as 65,535.

@@ -3,4 +3,4 @@ use Rattle.splitting.proofs.Unleading.{Unleading}
 use Rattle.splitting.proofs.hits.settle_hits.Given as goal
 
 abbrev pub invariant-loop-j : goal.invariant-loop-j
-invariant-loop-j l = Unleading l.n l.j l.initial.work l.work l.split
+invariant-loop-j l = Unleading l.j l.sizes l.touched l.initial.leds l.leds l.split

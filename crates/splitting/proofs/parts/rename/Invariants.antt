@@ -1,8 +1,7 @@
 -- What the loop of `splitting::parts::rename` keeps: the states below x are named anew.
 use Rattle.table.specs.Tables.{unmarked}
-use Rattle.splitting.specs.Work.{class_in, Renamed}
+use Rattle.splitting.specs.Work.{Renamed}
 use Rattle.splitting.proofs.parts.rename.Given as goal
 
 abbrev pub invariant-loop-x : goal.invariant-loop-x
-invariant-loop-x l =
-    Renamed (unmarked l.nexts) (class_in l.nexts.sizes.states l.initial.work) l.q l.a l.x l.initial.work l.work
+invariant-loop-x l = Renamed (unmarked l.nexts) l.classes l.q l.a l.x l.firsts l.gones l.renamed

@@ -1,19 +1,25 @@
 -- `splitting::parts::share` meets its contract.
-use Rattle.splitting.proofs.Sharing.{Fit, part_ahead, shared_more}
+use native.Mathlib.Omega.{arith}
+use Rattle.splitting.specs.Parts.{numbers}
+use Rattle.splitting.proofs.Sharing.{shared_none, first_ahead, part_ahead, shared_more}
 use Rattle.splitting.proofs.parts.share.Goals as goal
+
+pub loop-p-init : goal.loop-p-init
+loop-p-init c = shared_none _ _
+
+pub share_class-requires-clause-within : goal.share_class-requires-clause-within
+share_class-requires-clause-within c =
+    let l = c.loop-p in
+    let t = c.loop-p-test.true in
+    let e = first_ahead _ _ _ (numbers l.sizes l.firsts l.gones l.pendings) t l.invariant c.requires.fit in
+    (omega (arith, t, l.auto.sizes), omega (arith, e, (c.requires.fit.within l.p t).0, l.auto.sizes))
 
 pub share_class-requires-clause-part : goal.share_class-requires-clause-part
 share_class-requires-clause-part c =
-    let a = c.args in
     let l = c.loop-p in
-    let t = c.loop-p-test.true in
-    let fit : Fit a.n a.work.now = record { within = λ p m. (c.requires.within p m).0; apart = c.requires.apart; single = c.requires.single } in
-    part_ahead a.n a.signs l.p a.work.now l.work t l.invariant fit (c.requires.within l.p t).1
+    part_ahead _ _ _ (numbers l.sizes l.firsts l.gones l.pendings) c.loop-p-test.true l.invariant c.requires.fit
 
 pub loop-p-preserved : goal.loop-p-preserved
 loop-p-preserved c =
-    let a = c.args in
     let l = c.loop-p in
-    let t = c.loop-p-test.true in
-    let fit : Fit a.n a.work.now = record { within = λ p m. (c.requires.within p m).0; apart = c.requires.apart; single = c.requires.single } in
-    shared_more a.n a.signs l.p a.work.now l.work t l.invariant fit _ c.share_class.ensures
+    shared_more _ _ _ (numbers l.sizes l.firsts l.gones l.pendings) c.loop-p-test.true l.invariant c.requires.fit _ c.share_class.ensures

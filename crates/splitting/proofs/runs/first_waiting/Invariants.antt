@@ -3,8 +3,8 @@ use Prim.Native.Nat.{ℕ, ◌<◌}
 use mathlib.Core.Path.{◌≡◌}
 use mathlib.Core.Bool.{false, not}
 use lib.Dec.{eqb}
-use Rattle.splitting.specs.Work.{pending_of}
+use Rattle.counting.specs.Lists.{at}
 use Rattle.splitting.proofs.runs.first_waiting.Given as goal
 
 abbrev pub invariant-loop-q : goal.invariant-loop-q
-invariant-loop-q l = (p : ℕ) → p < l.q → not (eqb (pending_of l.n l.work p) 0) ≡ false
+invariant-loop-q l = (p : ℕ) → p < l.q → not (eqb (at l.rooms.pendings.now p) 0) ≡ false

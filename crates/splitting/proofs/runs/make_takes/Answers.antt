@@ -8,7 +8,7 @@ use Rattle.splitting.proofs.Progress.{Progress, progress_none, progress_more, lo
 use Rattle.splitting.proofs.runs.make_takes.Goals as goal
 
 pub loop-takes-init : goal.loop-takes-init
-loop-takes-init c = progress_none (unmarked c.args.nexts.now) c.args.work.now c.requires.formed c.requires.ready
+loop-takes-init c = progress_none (unmarked c.args.nexts.now) c.args.rooms.now c.requires.formed c.requires.ready
 
 pub returns-in_default : goal.returns-in_default
 returns-in_default c = ran_idle _ _ _ _ _ _ c.loop-takes.invariant c.args.budget (omega (arith, c.loop-takes-test.true)) c.in_default.ensures
@@ -17,12 +17,13 @@ pub overflow_add-entries : goal.overflow_add-entries
 overflow_add-entries c =
     let l = c.loop-takes in
     let k = c.take_one-look in
-    omega (arith, looked_more (unmarked c.args.nexts.now) l.work k.new.work k.result.entries c.args.nexts.now.held.range.states_most k.ensures.taken, l.invariant.looked_few, c.requires.room)
+    omega (arith, looked_more (unmarked c.args.nexts.now) l.rooms k.new.rooms k.result.entries c.args.nexts.now.held.range.states_most k.ensures.taken, l.invariant.looked_few, c.requires.room)
 
 pub loop-takes-preserved : goal.loop-takes-preserved
 loop-takes-preserved c =
     let first = c.in-Some.ensures in
     let h = c.args.nexts.now.held in
     let k = c.take_one-look in
+    let i = c.loop-takes.invariant in
     subst (Progress _ _ _ _ _) (sym c.one_of-low.ensures)
-    (progress_more _ _ _ _ _ _ c.loop-takes.invariant c.in-Some.q first.0 first.1 (held_lawful [] h) h.range.states_most k.new.work k.result.entries k.ensures.taken k.result.split k.ensures.idle)
+    (progress_more _ _ _ _ _ _ i c.in-Some.q (omega (arith, first.0, i.ready.room.pendings)) first.1 (held_lawful [] h) h.range.states_most k.new.rooms k.result.entries k.ensures.taken k.result.split k.ensures.idle)

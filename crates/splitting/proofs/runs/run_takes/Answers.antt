@@ -1,20 +1,33 @@
--- `splitting::runs::run_takes` meets its contract: the work slice is made ready, which leaves the lists as they were, and takes are made on it.
-use mathlib.Core.Path.{sym, subst}
+-- `splitting::runs::run_takes` meets its contract.
+use mathlib.Core.Path.{sym, subst, ◌∙◌}
+use Rattle.std.proofs.Common.{rules}
 use Rattle.refining.specs.Lists.{WellFormed}
-use Rattle.table.specs.Tables.{unmarked}
-use Rattle.splitting.proofs.Places.{lists_same}
-use Rattle.splitting.proofs.Progress.{ran-from}
+use Rattle.splitting.proofs.Joining.{Joined, joined_lists, classed_joined, ran_joined}
 use Rattle.splitting.proofs.runs.run_takes.Goals as goal
+
+pub make_ready-requires-clause-classed : goal.make_ready-requires-clause-classed
+make_ready-requires-clause-classed c =
+    let n = c.args.nexts.now.sizes.states in
+    let j : Joined n c.args.work.now c.split_at_mut-sizes.result.0.now c.split_at_mut-firsts.result.0.now c.split_at_mut-gones.result.0.now c.split_at_mut-renamed.result.0.now
+    c.split_at_mut-leds.result.0.now c.split_at_mut-touched.result.0.now c.split_at_mut-classes.result.0.now c.split_at_mut-pendings.result.0.now c.split_at_mut-pendings.result.1.now
+    = record { whole = cc; long = search rules }
+    in
+    classed_joined _ _ _ _ _ _ _ _ _ _ _ j _ c.requires.formed
 
 pub make_takes-requires-clause-formed : goal.make_takes-requires-clause-formed
 make_takes-requires-clause-formed c =
-    let z = c.args.nexts.now.sizes in
-    let e = c.make_ready.ensures in
-    subst (WellFormed z.states z.signs) (sym (lists_same z.states c.make_ready.new.work c.args.work.now c.requires.room.0 e.long (λ i l h. e.beyond i l))) c.requires.formed
+    let n = c.args.nexts.now.sizes.states in
+    let j : Joined n c.args.work.now c.split_at_mut-sizes.result.0.now c.split_at_mut-firsts.result.0.now c.split_at_mut-gones.result.0.now c.split_at_mut-renamed.result.0.now
+    c.split_at_mut-leds.result.0.now c.split_at_mut-touched.result.0.now c.split_at_mut-classes.result.0.now c.split_at_mut-pendings.result.0.now c.split_at_mut-pendings.result.1.now
+    = record { whole = cc; long = search rules }
+    in
+    subst (WellFormed n c.args.nexts.now.sizes.signs) (joined_lists _ _ _ _ _ _ _ _ _ _ _ j ∙ sym c.make_ready.ensures.lists) c.requires.formed
 
 pub returns : goal.returns
 returns c =
-    let z = c.args.nexts.now.sizes in
-    let e = c.make_ready.ensures in
-    let t = c.make_takes in
-    ran-from (unmarked c.args.nexts.now) c.args.budget c.args.work.now c.make_ready.new.work t.new.work t.result.takes t.result.entries c.requires.room.0 e.long e.beyond t.ensures
+    let n = c.args.nexts.now.sizes.states in
+    let j : Joined n c.args.work.now c.split_at_mut-sizes.result.0.now c.split_at_mut-firsts.result.0.now c.split_at_mut-gones.result.0.now c.split_at_mut-renamed.result.0.now
+    c.split_at_mut-leds.result.0.now c.split_at_mut-touched.result.0.now c.split_at_mut-classes.result.0.now c.split_at_mut-pendings.result.0.now c.split_at_mut-pendings.result.1.now
+    = record { whole = cc; long = search rules }
+    in
+    ran_joined _ _ _ _ _ _ _ _ _ _ _ _ j _ _ _ _ c.make_ready.ensures.lists c.make_takes.ensures _ (search rules)
