@@ -1,10 +1,8 @@
 -- `shrinking::reaching::spread` meets its contract. The loop's invariant: the next states under the first a signs are marked.
 use Prim.Native.Nat.{ℕ}
-use mathlib.Core.Path.{◌≡◌, ap, subst}
+use mathlib.Core.Path.{ap}
 use mathlib.Core.Bool.{◌||◌}
 use lib.Dec.{eqb}
-use Rattle.table.specs.Tables.{unmarked}
-use Rattle.shrinking.specs.Reached.{Spread}
 use Rattle.shrinking.proofs.Spreading.{spread_none, spread_more}
 use native.Mathlib.Omega.{arith}
 use Rattle.shrinking.proofs.reaching.spread.Goals as goal
@@ -18,9 +16,3 @@ loop-a-preserved c =
     let x = c.next_of-next in
     spread_more _ c.args.q l.a c.args.reached.now l.reached l.new l.invariant x.result x.ensures.value x.ensures.inside (omega arith) c.requires.small _
     (ap (λ (y : ℕ). l.new || eqb y 0) c.number_at.ensures.value)
-
-pub returns : goal.returns
-returns c =
-    let l = c.loop-a in
-    let e : l.a ≡ c.args.nexts.now.sizes.signs = omega (arith, c.loop-a-test.false) in
-    subst (λ (a : ℕ). Spread (unmarked c.args.nexts.now) c.args.q a c.args.reached.now l.reached l.new) e l.invariant
