@@ -50,19 +50,13 @@ numbers_lent n work = take (3 * n - 2 * n) (drop (2 * n) work)
 abbrev pub classes_lent : ℕ → List ℕ → List ℕ
 classes_lent n work = take (7 * n - 6 * n) (drop (6 * n) work)
 
--- the rows found: no more than states; the file of the machine over them is that of the quotient, and as long
+-- the rows found: the file of the machine over them is that of the quotient, and as long
 module _ (M : Machine) (before after : List ℕ) (count takes : ℕ) (f : RowsFound M before after count takes) where
   rows_are : rows_lent M.size count after ≡ rows_in M.size count after
   rows_are = ap (λ (m : ℕ). take m (drop (3 * M.size) after)) (omega arith)
 
   classes_are : classes_lent M.size after ≡ classes_in M.size after
   classes_are = ap (λ (m : ℕ). take m (drop (6 * M.size) after)) (omega arith)
-
-  pub rows_long : length (rows_lent M.size count after) ≡ count
-  rows_long = ap length (rows_are ∙ f.rows) ∙ sym f.counted
-
-  pub count_most : count ≤ M.size
-  count_most = omega (arith, ap length f.rows, f.counted, f.writable.most)
 
   pub lent_writable : WritableBy M (rows_lent M.size count after) (numbers_lent M.size after) (classes_lent M.size after)
   lent_writable = let e : 3 * M.size - 2 * M.size ≡ M.size = omega arith in rw (rows_are, classes_are, e) f.writable

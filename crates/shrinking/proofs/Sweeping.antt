@@ -4,13 +4,12 @@ use mathlib.Core.Logic.{◌≢◌}
 use mathlib.Core.Bool.{Bool, true, false, ◌||◌, true≢false}
 use mathlib.Core.List.{List, [], ◌∷◌}
 use Prim.Native.Nat.{ℕ, suc, ◌+◌, ◌≤◌, ◌<◌}
-use native.Mathlib.Nat.{not-suc-le-zero}
 use native.Mathlib.Numerals.{add-one}
 use native.Mathlib.Decide.{ℕ_discrete}
 use native.Mathlib.Omega.{arith}
 use borrow.Author.Tests.{eq-eqb, ne_eqb, eqb-true}
 use lib.Dec.{eqb}
-use lib.ListN.{length, set, length-set}
+use lib.ListN.{length, set}
 use lib.Seq.{get_or-set_same, get_or-set_other}
 use Rattle.counting.specs.Lists.{at}
 use Rattle.counting.specs.Least.{pick}
@@ -86,14 +85,6 @@ module _ (M : Machine) (g : Lawful M) where
       | no u ↦ stepped_marked (omega (arith, s.small q l)) (p.marked u)
     ]
 
-  pub sweep_none : (w : List ℕ) → Sound M w → Sweeping M 0 w w false
-  sweep_none w s = record {
-    sound = s;
-    kept = λ x k e. e;
-    quiet = λ t x a k. absurd (not-suc-le-zero k);
-    busy = λ t. absurd (true≢false (sym t));
-  }
-
   module _ (q : ℕ) (l : q < M.size) (w v u : List ℕ) (new more : Bool) (s : Sound M w) (r : Sweeping M q w v new) (p : Stepped M q v u more) where
     -- where nothing is new so far, the next states of the marked states stay marked
     closed : new ≡ false → more ≡ false → (x a : ℕ) → x < suc q → a < M.signs → at u x ≡ 1 → at u (M.next x a) ≡ 1
@@ -124,14 +115,6 @@ module _ (M : Machine) (g : Lawful M) where
 
   pub sweep_more : (q : ℕ) → q < M.size → (w v u : List ℕ) (new more told : Bool) → Sound M w → Sweeping M q w v new → SpreadMarked M q v u more → told ≡ (new || more) → Sweeping M (q + 1) w u told
   sweep_more q l w v u new more told s r p t = rw (add-one q, t) (goes_on q l w v u new more s r (stepped q l v u more r.sound p))
-
-  pub sweep_done : (q : ℕ) (w v : List ℕ) (new : Bool) → M.size ≤ q → Sweeping M q w v new → Swept M w v new
-  sweep_done q w v new m r = record {
-    sound = r.sound;
-    kept = r.kept;
-    quiet = λ t x a k. r.quiet t x a (omega arith);
-    busy = r.busy;
-  }
 
   -- the start alone is marked
   module _ (w : List ℕ) (room : M.size ≤ length w) (clear : (x : ℕ) → x < M.size → at w x ≡ 0) where

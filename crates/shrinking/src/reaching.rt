@@ -8,6 +8,7 @@ use lending::number_at;
 use table::tables::NextStates;
 
 // Marks the next states of a state; gives whether one was not marked before.
+#[tactic(auto, using(crate::proofs::Spreading::spread_none, crate::proofs::Spreading::spread_more))]
 fn spread(nexts: &NextStates<'_>, reached: &mut [u16], q: usize) -> bool
     requires sized { length reached.old ≡ nexts.now.sizes.states }
     requires state { q < nexts.now.sizes.states }

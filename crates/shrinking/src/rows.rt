@@ -17,6 +17,7 @@ fn flag_class(reached: &[u16], classes: &[u16], flags: &mut [u16], q: usize)
 }
 
 // Flags every class that holds a marked state.
+#[tactic(auto, using(crate::proofs::Flagging::flags_none, crate::proofs::Flagging::flags_more))]
 pub fn flag_classes(reached: &[u16], classes: &[u16], flags: &mut [u16])
     requires sized { length classes.now ≡ length reached.now }
     requires classed { (q : ℕ) → q < length reached.now → at classes.now q < length flags.old }

@@ -30,6 +30,7 @@ fn row_of(lists: &RowLists<'_>, q: usize) -> usize
 }
 
 // Writes field 1, and the head of field 2.
+#[tactic(auto, using(crate::proofs::Stores::sizes_stored))]
 pub fn write_sizes(rows: usize, signs: usize, start: usize, out: &mut [u8])
     requires small { (rows < 65536) × (signs < 65536) × (start < 65536) }
     requires room { 12 ≤ length out.old }
@@ -45,6 +46,7 @@ pub fn write_sizes(rows: usize, signs: usize, start: usize, out: &mut [u8])
 }
 
 // Writes the marks of the rows.
+#[tactic(auto, using(crate::proofs::Stores::marks_none, crate::proofs::Stores::marks_more))]
 fn write_marks(marks: &[u8], rows: &[u16], out: &mut [u8])
     requires listed { (i : ℕ) → i < length rows.now → at rows.now i < length marks.now }
     requires room { 12 + length rows.now ≤ length out.old }
@@ -57,6 +59,7 @@ fn write_marks(marks: &[u8], rows: &[u16], out: &mut [u8])
 }
 
 // Writes the next states of one row.
+#[tactic(auto, using(crate::proofs::Stores::row_none, crate::proofs::Stores::row_more))]
 fn write_row(nexts: &NextStates<'_>, lists: &RowLists<'_>, i: usize, out: &mut [u8])
     requires writable { WritableBy (unmarked nexts.now) lists.now.rows.now lists.now.numbers.now lists.now.classes.now }
     requires row { i < length lists.now.rows.now }
@@ -88,6 +91,7 @@ fn write_rows(nexts: &NextStates<'_>, lists: &RowLists<'_>, out: &mut [u8])
 }
 
 // Writes the file of the rows. Of the marks it asks only how many there are, so it takes no `Table`.
+#[tactic(auto, using(crate::proofs::Spelling::file_stored))]
 pub fn write_file(marks: &[u8], nexts: &NextStates<'_>, lists: &RowLists<'_>, out: &mut [u8])
     requires marks { length marks.now ≡ nexts.now.sizes.states }
     requires writable { WritableBy (machine_with nexts.now marks.now) lists.now.rows.now lists.now.numbers.now lists.now.classes.now }

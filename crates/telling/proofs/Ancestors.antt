@@ -104,9 +104,6 @@ Climbed w x j c = (M : Machine) → Keeps M w → (i : ℕ) × Bears M x i c × 
 last_name : (M : Machine) (w : LastLayer) → Keeps M w → (x : ℕ) → x < states w → Bears M x (rounds M) (named w x)
 last_name M w k x l = let m : x < M.size = omega (arith, k.size) in record { state = m; within = omega arith; named = sym (k.names x m) }
 
-pub climbed_none : (w : LastLayer) (x j : ℕ) → x < states w → Climbed w x j (named w x)
-climbed_none w x j l M k = (rounds M, last_name M w k x l, λ h. h)
-
 module _ (w : LastLayer) (x j c : ℕ) (h : Climbed w x j c) where
   pub climbed_low : Kept w → c < states w
   climbed_low (M, k) = let (i, b, m) = h M k in omega (arith, k.size, low M w k x i c b)
@@ -126,9 +123,6 @@ module _ (w : LastLayer) (x j c : ℕ) (h : Climbed w x j c) where
 pub record Traced (w : LastLayer) (p q c d : ℕ) : Type 0 where
   pub unlike : c ≢ d
   pub both : (M : Machine) → Keeps M w → (i : ℕ) × Bears M p i c × Bears M q i d
-
-pub traced_none : (w : LastLayer) (p q : ℕ) → p < states w → q < states w → named w p ≢ named w q → Traced w p q (named w p) (named w q)
-traced_none w p q l m u = record { unlike = u; both = λ M k. (rounds M, last_name M w k p l, last_name M w k q m) }
 
 -- the later of two births is the least number that neither passes
 record Later (a b m : ℕ) : Type 0 where

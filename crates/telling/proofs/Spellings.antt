@@ -47,22 +47,10 @@ module _ (t : NextStates) (w : LastLayer) (p q i : ℕ) where
         → (b : ℕ) → b < a
         → not (eqb (at (layer (machine_with t marks) i) (next t p b)) (at (layer (machine_with t marks) i) (next t q b))) ≡ false
 
-  pub unparted_none : Unparted 0
-  unparted_none = record { below = λ marks h m b l. absurd (not-suc-le-zero l) }
-
   -- the next states under a sign were compared
   module _ (a left right : ℕ) (c : Bool) (e : left ≡ next t p a) (f : right ≡ next t q a) (d : Differ w left right i c) where
     compared : Differ w (next t p a) (next t q a) i c
     compared M h m = d M h m ∙ ap₂ (λ (x y : ℕ). not (eqb (at (layer M i) x) (at (layer M i) y))) e f
-
-    pub unparted_more : c ≡ false → Unparted a → Unparted (a + 1)
-    unparted_more v u = record {
-      below = λ marks h m b l.
-          elim (ℕ_discrete b a) [
-            | yes w ↦ rw w (sym (compared (machine_with t marks) h m) ∙ v)
-            | no w ↦ u.below marks h m b (omega arith)
-          ];
-    }
 
     pub sign_found : c ≡ true → a < t.sizes.signs → Unparted a → PartingSign t w p q i a
     unfolding parting_sign

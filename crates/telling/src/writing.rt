@@ -7,6 +7,7 @@ use lending::number_at;
 use table::tables::NextStates;
 
 // Whether two states have different names in a layer. Where their last names are equal no layer parts them.
+#[tactic(auto, using(crate::proofs::Spellings::never_differ))]
 fn differ(last: &LastLayer<'_>, x: usize, y: usize, layer: usize) -> bool
     requires states { (x < states last.now) × (y < states last.now) }
     requires kept { Kept last.now }
@@ -19,6 +20,7 @@ fn differ(last: &LastLayer<'_>, x: usize, y: usize, layer: usize) -> bool
 }
 
 // The least sign under which the next states of two states have different names in a layer, else the number of signs: no `Option`, since callers know that one is.
+#[tactic(auto, using(crate::proofs::Spellings::sign_found, crate::proofs::Spellings::sign_none))]
 fn parting_sign(
     nexts: &NextStates<'_>,
     last: &LastLayer<'_>,

@@ -14,6 +14,3 @@ returns c = found_quiet _ (held_lawful [] c.args.nexts.now.held) c.loop.reached 
 
 pub loop-smaller : goal.loop-smaller
 loop-smaller c = fewer_unmarked _ c.loop.reached _ _ c.loop-test.true c.loop.invariant c.sweep.ensures
-
-pub loop-preserved : goal.loop-preserved
-loop-preserved c = c.sweep.ensures.sound

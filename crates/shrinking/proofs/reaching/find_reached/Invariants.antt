@@ -1,8 +1,5 @@
 -- The loop's invariant of `shrinking::reaching::find_reached`: the start and only reached states are marked.
-use Prim.Native.Nat.{ℕ, ◌≤◌}
-use mathlib.Core.Path.{◌≡◌}
 use lib.Dec.{eqb}
-use lib.ListN.{length}
 use Rattle.counting.specs.Lists.{at}
 use Rattle.counting.specs.Counts.{count}
 use Rattle.table.specs.Tables.{unmarked}

@@ -2,18 +2,10 @@
 use mathlib.Core.Path.{refl}
 use mathlib.Core.List.{[]}
 use Rattle.table.proofs.Handing.{held_lawful}
-use Rattle.shrinking.proofs.Sweeping.{sweep_none, sweep_more, sweep_done}
+use Rattle.shrinking.proofs.Sweeping.{sweep_more}
 use Rattle.shrinking.proofs.reaching.sweep.Goals as goal
-
-pub loop-q-init : goal.loop-q-init
-loop-q-init c = sweep_none _ (held_lawful [] c.args.nexts.now.held) _ c.requires.sound
 
 pub loop-q-preserved : goal.loop-q-preserved
 loop-q-preserved c =
     let l = c.loop-q in
     sweep_more _ (held_lawful [] c.args.nexts.now.held) l.q c.loop-q-test.true c.args.reached.now l.reached _ l.new _ _ c.requires.sound l.invariant c.spread_marked-new.ensures refl
-
-pub returns : goal.returns
-returns c =
-    let l = c.loop-q in
-    sweep_done _ (held_lawful [] c.args.nexts.now.held) l.q c.args.reached.now l.reached l.new c.loop-q-test.false l.invariant

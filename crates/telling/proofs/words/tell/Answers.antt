@@ -21,9 +21,6 @@ returns-then-n-p c = tell-first _ _ c.in_ok-table.ensures _ _ _ _ c.if-n-p.true
 pub returns-then-n-q : goal.returns-then-n-q
 returns-then-n-q c = tell_second _ _ c.in_ok-table.ensures _ _ _ _ c.if-n-p.false c.if-n-q.true
 
-pub overflow_mul-room : goal.overflow_mul-room
-overflow_mul-room c = omega (arith, c.in_ok-table.table.nexts.held.range.states_most)
-
 pub returns-then-work-room : goal.returns-then-work-room
 returns-then-work-room c = tell_narrow _ _ c.in_ok-table.ensures _ _ _ _ c.if-n-p.false c.if-n-q.false c.if-work-room.true
 

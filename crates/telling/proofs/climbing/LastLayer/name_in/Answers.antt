@@ -2,20 +2,12 @@
 use Prim.Native.Nat.{◌<◌}
 use mathlib.Core.Path.{sym, subst}
 use Rattle.telling.specs.Kept.{born}
-use Rattle.telling.proofs.Ancestors.{Climbed, climbed_none, climbed_low, climbed_less, climbed_more, climbed_done}
+use Rattle.telling.proofs.Ancestors.{Climbed, climbed_low, climbed_less, climbed_more, climbed_done}
 use native.Mathlib.Omega.{arith}
 use Rattle.telling.proofs.climbing.LastLayer.name_in.Goals as goal
 
-pub loop-name-init : goal.loop-name-init
-loop-name-init c =
-    subst (Climbed c.args.self.now c.args.x c.args.layer) (sym c.number_at-name.ensures.value)
-    (climbed_none c.args.self.now c.args.x c.args.layer c.requires.state)
-
 pub number_at-requires : goal.number_at-requires
 number_at-requires c = omega (arith, climbed_low c.args.self.now c.args.x c.args.layer c.loop-name.name c.loop-name.invariant c.requires.kept, c.args.self.now.sized)
-
-pub number_at-name-requires-in-loop-name : goal.number_at-name-requires-in-loop-name
-number_at-name-requires-in-loop-name c = omega (arith, climbed_low c.args.self.now c.args.x c.args.layer c.loop-name.name c.loop-name.invariant c.requires.kept, c.args.self.now.sized)
 
 pub loop-name-smaller : goal.loop-name-smaller
 loop-name-smaller c =

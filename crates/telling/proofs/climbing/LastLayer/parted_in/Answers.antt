@@ -1,11 +1,6 @@
 -- `telling::climbing::LastLayer::parted_in` meets its contract.
-use Rattle.telling.proofs.Ancestors.{traced_none, traced_low, traced_first, traced_more, traced_found, traced_less}
+use Rattle.telling.proofs.Ancestors.{traced_low, traced_first, traced_more, traced_found, traced_less}
 use Rattle.telling.proofs.climbing.LastLayer.parted_in.Goals as goal
-
-pub loop-p-init : goal.loop-p-init
-loop-p-init c =
-    rw (c.number_at-one.ensures.value, c.number_at-other.ensures.value)
-    (traced_none c.args.self.now c.args.p c.args.q c.requires.states.0 c.requires.states.1 c.requires.apart)
 
 pub later_birth-layer-requires : goal.later_birth-layer-requires
 later_birth-layer-requires c = traced_low c.args.self.now c.args.p c.args.q c.loop-p.one c.loop-p.other c.loop-p.invariant c.requires.kept
