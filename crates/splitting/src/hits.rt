@@ -32,9 +32,11 @@ pub fn count_hits(
     requires unled { (c : ℕ) → c < nexts.now.sizes.states → at leds.old c ≡ 0 }
     ensures { Counted (unmarked nexts.now) classes.now q a nexts.now.sizes.states leds.new touched.new result }
 {
+    // A copy, which stays in registers while lent numbers are written.
+    let nexts = *nexts;
     let mut entries = 0;
     for x in 0..nexts.sizes.states {
-        if leads(nexts, classes, x, a, q) {
+        if leads(&nexts, classes, x, a, q) {
             let c = number_at(classes, x);
             touched[entries] = c as u16;
             leds[c] += 1;

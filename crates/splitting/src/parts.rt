@@ -50,10 +50,12 @@ pub fn rename(
     requires idle { (c : ℕ) → c < nexts.now.sizes.states → (at firsts.old c ≡ 0) × (at gones.old c ≡ 0) }
     ensures { Renamed (unmarked nexts.now) classes.now q a nexts.now.sizes.states firsts.new gones.new renamed.new }
 {
+    // A copy, which stays in registers while lent numbers are written.
+    let nexts = *nexts;
     for x in 0..nexts.sizes.states {
         let c = number_at(classes, x);
-        let own = leads(nexts, classes, x, a, q);
-        let name = leads(nexts, classes, c, a, q);
+        let own = leads(&nexts, classes, x, a, q);
+        let name = leads(&nexts, classes, c, a, q);
         name_anew(firsts, gones, renamed, c, x, own != name);
     }
 }
