@@ -4,11 +4,9 @@ use mathlib.Core.List.{List, [], ◌∷◌}
 use Prim.Native.Nat.{ℕ, ◌*◌, ◌≤◌, ◌<◌}
 use native.Mathlib.Omega.{arith}
 use borrow.Author.Tests.{lt-ltb, le-ltb}
-use lib.Dec.{eqb}
 use lib.ListN.{length, take}
 use lib.Seq.{ext_get_or, get_or-take, length-take-le}
 use Rattle.counting.specs.Lists.{at}
-use Rattle.counting.proofs.Tallies.{count_cong}
 use Rattle.automaton.specs.Machine.{Machine}
 use Rattle.automaton.specs.Layers.{layer, rounds, classes, class_count}
 use Rattle.automaton.proofs.Alikes.{layer-length}
@@ -32,20 +30,16 @@ layers_refused file work result e = sym (file_refused file (work ∷ result ∷ 
 
 -- the names in the work slice are the classes
 module _ (M : Machine) (before after : List ℕ) (r : ℕ) (s : Settled M before after r) where
-  named : (x : ℕ) → x < M.size → at after x ≡ at (classes M) x
-  unfolding classes
-  named x l = s.layered.names x l ∙ ap (λ (i : ℕ). at (layer M i) x) s.last
-
   pub names_are : M.size ≤ length before → take M.size after ≡ classes M
   unfolding classes
   names_are room =
       let long : length (take M.size after) ≡ M.size = length-take-le M.size after (omega (arith, s.long)) in
       ext_get_or 0 (take M.size after) (classes M) (long ∙ sym (layer-length M (rounds M)))
-      (λ x l. let m : x < M.size = omega (arith, long) in get_or-take M.size after x 0 m ∙ named x m)
+      (λ x l. let m : x < M.size = omega (arith, long) in get_or-take M.size after x 0 m ∙ s.layered.names x m ∙ ap (λ (i : ℕ). at (layer M i) x) s.last)
 
-  pub count_is : class_count M.size after ≡ class_count M.size (classes M)
-  unfolding class_count
-  count_is = count_cong M.size _ _ (λ x l. ap (λ (c : ℕ). eqb c x) (named x l))
+  pub count_is : M.size ≤ length before → class_count (length (take M.size after)) (take M.size after) ≡ class_count M.size (classes M)
+  unfolding classes
+  count_is room = rw (names_are room) (ap (λ (n : ℕ). class_count n (classes M)) (layer-length M (rounds M)))
 
 module _ (file : List ℕ) (t : Table) (o : TableOf file t) (work result : List ℕ) where
   abbrev z : Sizes
@@ -69,11 +63,11 @@ module _ (file : List ℕ) (t : Table) (o : TableOf file t) (work result : List 
         ∙ refuses_here 12 z.states (cleared (16 * z.states) work ∷ result ∷ []) _ (lt-ltb (length result) z.states l))
 
     pub layers_found : z.states ≤ length result → (after : List ℕ) (r : ℕ) → Settled (machine t) work after r
-        → left (gives (class_count z.states after ∷ r ∷ [])) (cleared (16 * z.states) after ∷ written (take z.states after) result ∷ []) ≡ layers_leave file work result
+        → left (gives (class_count (length (take z.states after)) (take z.states after) ∷ r ∷ [])) (cleared (16 * z.states) after ∷ written (take z.states after) result ∷ []) ≡ layers_leave file work result
     unfolding layers_of
     layers_found l after r s =
         ap₂ left
-        (ap₂ (λ (m i : ℕ). gives (m ∷ i ∷ [])) (count_is (machine t) work after r s) s.last)
+        (ap₂ (λ (m i : ℕ). gives (m ∷ i ∷ [])) (count_is (machine t) work after r s (omega arith)) s.last)
         (ap₂ (λ (w c : List ℕ). w ∷ written c result ∷ []) (cleared_same (16 * z.states) after work s.long (λ j h. s.beyond j (omega arith))) (names_are (machine t) work after r s (omega arith)))
         ∙ sym
         (given

@@ -125,6 +125,7 @@ fn advance(rooms: &mut Rooms<'_>)
     ensures kept { Kept rooms.old rooms.new }
     ensures moved { Moved (numbers_of rooms.old) (numbers_of rooms.new) }
 {
+    // Borrowed as it is lent, so that its numbers are known to stay.
     let laters = &mut *rooms.laters;
     rooms.names.copy_from_slice(laters);
 }
