@@ -1,5 +1,5 @@
 // The layered call: the class of each state, the number of classes and the rounds.
-ghost use Rattle.std.specs.Prelude.{◌≡◌, [], ◌∷◌, ◌≤◌, length, take};
+ghost use Rattle.std.specs.Prelude.{◌≡◌, [], ◌∷◌, ◌≤◌, length};
 ghost use Rattle.automaton.specs.Layers.{class_count};
 ghost use Rattle.lending.specs.Memory.{written};
 ghost use Rattle.table.specs.Leaving.{left};

@@ -1,7 +1,6 @@
 // One round: the names of the next layer, in lists of n numbers from the work slice. A class that does not split costs one comparison for
 // each of its states.
-ghost use Rattle.std.specs.Prelude.{◌≡◌, [], ℕ, ◌*◌, ◌<◌, ◌≤◌, length};
-ghost use Rattle.counting.specs.Lists.{at};
+ghost use Rattle.std.specs.Prelude.{◌≡◌, ◌*◌, ◌<◌, ◌≤◌, length};
 ghost use Rattle.table.specs.Tables.{machine, unmarked};
 ghost use Rattle.layering.specs.Layered.{AtLayer, Rested, Settled};
 ghost use Rattle.layering.specs.Sized.{Sized};
