@@ -1,19 +1,16 @@
 -- The class names written to the front of the result, and counted one by one.
-use mathlib.Core.Path.{◌≡◌, refl, sym, ap, ap₂, ◌∙◌}
+use mathlib.Core.Path.{◌≡◌, refl, ap₂, ◌∙◌}
 use mathlib.Core.Bool.{Bool, true, false}
-use mathlib.Core.List.{List, ◌++◌}
+use mathlib.Core.List.{List}
 use Prim.Native.Nat.{ℕ, ◌+◌, ◌≤◌}
 use native.Mathlib.Numerals.{add-one}
 use mir.Val.{bool_byte}
 use lib.Dec.{eqb}
-use lib.ListN.{length, take, drop}
-use lib.Seq.{length-take-le}
 use Rattle.counting.specs.Lists.{at}
 use Rattle.counting.specs.Least.{pick}
 use Rattle.counting.specs.Counts.{count}
 use Rattle.counting.proofs.Tallies.{count_most}
 use Rattle.automaton.specs.Layers.{class_count}
-use Rattle.lending.specs.Memory.{written}
 
 byte_pick : (b : Bool) → bool_byte b ≡ pick b 1 0
 unfolding pick
@@ -31,7 +28,3 @@ names_more q names part work e f = rw (add-one q) (ap₂ ◌+◌ e (f ∙ byte_p
 pub names_most : (q : ℕ) (work : List ℕ) → class_count q work ≤ q
 unfolding class_count
 names_most q work = count_most q _
-
-pub copied : (n : ℕ) (work lent front : List ℕ) → n ≤ length work → front ≡ take n work → front ++ drop n lent ≡ written (take n work) lent
-unfolding written
-copied n work lent front room e = ap₂ ◌++◌ e (ap (λ (m : ℕ). drop m lent) (sym (length-take-le n work room)))

@@ -17,11 +17,11 @@ use Rattle.lending.proofs.Memories.{cleared_same}
 use Rattle.table.specs.Answers.{gives, refuses}
 use Rattle.table.specs.Judging.{judged}
 use Rattle.table.specs.Leaving.{left}
-use Rattle.table.specs.Accepted.{Good}
-use Rattle.table.specs.Encoding.{machine_in}
 use Rattle.table.specs.Tables.{machine, TableOf}
-use Rattle.table.specs.declared.answer.Sizes.{Sizes}
 use Rattle.table.specs.declared.tables.Table.{Table}
+use Rattle.table.specs.Encoding.{machine_in}
+use Rattle.table.specs.Accepted.{Good}
+use Rattle.table.specs.declared.answer.Sizes.{Sizes}
 use Rattle.table.proofs.Leavings.{file_refused, file_given, refuses_here, refuses_not}
 use Rattle.table.proofs.Openings.{good_given}
 use Rattle.table.proofs.Handing.{marks_in, nexts_in, machine_is}
@@ -83,6 +83,14 @@ module _ (file : List ℕ) (z : Sizes) (g : Good file z) (work result : List ℕ
         ∙ refuses_not 11 (16 * z.states) (work ∷ result ∷ []) _ (le-ltb (length work) (16 * z.states) room)
         ∙ refuses_not 12 z.states (cleared (16 * z.states) work ∷ result ∷ []) _ (le-ltb (length result) z.states l))
 
+-- the classes among the names, counted in the names alone
+count_taken : (n : ℕ) (after : List ℕ) → n ≤ length after → class_count (length (take n after)) (take n after) ≡ class_count n after
+unfolding class_count
+count_taken n after room =
+    let long : length (take n after) ≡ n = length-take-le n after room in
+    ap (λ (m : ℕ). class_count m (take n after)) long
+    ∙ count_cong n _ _ (λ x l. ap (λ (c : ℕ). eqb c x) (get_or-take n after x 0 l))
+
 -- the same of a table that is lent from the file
 module _ (file : List ℕ) (t : Table) (o : TableOf file t) (work result : List ℕ) where
   abbrev n : ℕ
@@ -96,7 +104,8 @@ module _ (file : List ℕ) (t : Table) (o : TableOf file t) (work result : List 
     lent_short = layers_short file t.nexts.sizes o.good work result room
 
     pub lent_found : n ≤ length result → (after : List ℕ) (r : ℕ) → Settled (machine t) work after r
-        → left (gives (class_count n after ∷ r ∷ [])) (cleared (16 * n) after ∷ written (take n after) result ∷ []) ≡ layers_leave file work result
+        → left (gives (class_count (length (take n after)) (take n after) ∷ r ∷ [])) (cleared (16 * n) after ∷ written (take n after) result ∷ []) ≡ layers_leave file work result
     lent_found l after r s =
-        layers_found file t.nexts.sizes o.good work result room l after r
+        ap (λ (m : ℕ). left (gives (m ∷ r ∷ [])) (cleared (16 * n) after ∷ written (take n after) result ∷ [])) (count_taken n after (omega (arith, s.long)))
+        ∙ layers_found file t.nexts.sizes o.good work result room l after r
         (subst₂ (λ (marks nexts : List ℕ). Settled (machine_in t.nexts.sizes.states t.nexts.sizes.signs t.nexts.sizes.start marks nexts) work after r) o.marks o.nexts s)

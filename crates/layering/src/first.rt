@@ -33,5 +33,6 @@ pub fn first_names(marks: &Marks<'_>, work: &mut [u16])
 {
     let n = marks.bytes.len();
     mark_names(marks, work);
-    work[3 * n..4 * n].fill(0);
+    let births = &mut work[3 * n..4 * n];
+    births.fill(0);
 }

@@ -1,5 +1,5 @@
 // The layered call: the class of each state, the number of classes and the rounds.
-ghost use Rattle.std.specs.Prelude.{◌≡◌, [], ◌∷◌, ◌≤◌, length, take};
+ghost use Rattle.std.specs.Prelude.{◌≡◌, [], ◌∷◌, ◌≤◌, length};
 ghost use Rattle.automaton.specs.Layers.{class_count};
 ghost use Rattle.lending.specs.Memory.{written};
 ghost use Rattle.table.specs.Leaving.{left};
@@ -18,16 +18,17 @@ pub struct Counts {
 }
 
 // Writes the class names to the front of the result; gives how many there are.
-#[tactic(auto, using(crate::proofs::Copying::names_none, crate::proofs::Copying::names_more, crate::proofs::Copying::names_most, crate::proofs::Copying::copied))]
-fn write_names(work: &[u16], n: usize, res: &mut [u16]) -> usize
-    requires { (n ≤ length work.now) × (n ≤ length res.old) × (n ≤ 1024) }
-    ensures names { result ≡ class_count n work.now }
-    ensures copied { res.new ≡ written (take n work.now) res.old }
+#[tactic(auto, using(crate::proofs::Copying::names_none, crate::proofs::Copying::names_more, crate::proofs::Copying::names_most), unfolding(lending::specs::Memory::written))]
+fn write_names(names: &[u16], res: &mut [u16]) -> usize
+    requires { length names.now ≤ length res.old }
+    ensures names { result ≡ class_count (length names.now) names.now }
+    ensures copied { res.new ≡ written names.now res.old }
 {
-    res[..n].copy_from_slice(&work[..n]);
+    let n = names.len();
+    res[..n].copy_from_slice(names);
     let mut count = 0;
     for q in 0..n {
-        count += usize::from(work[q] as usize == q);
+        count += usize::from(names[q] as usize == q);
     }
     count
 }
@@ -54,7 +55,7 @@ pub fn layers(file: &[u8], work: &mut [u16], res: &mut [u16]) -> Result<Counts, 
         });
     }
     let rounds = find_classes(&table, work);
-    let classes = write_names(work, n, res);
+    let classes = write_names(&work[..n], res);
     clear(work, room);
     Ok(Counts { classes, rounds })
 }

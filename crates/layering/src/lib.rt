@@ -3,5 +3,5 @@
 
 pub mod first;
 pub mod layers;
-pub mod rooms;
+mod rooms;
 pub mod rounds;

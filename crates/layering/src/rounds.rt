@@ -1,7 +1,6 @@
 // One round: the names of the next layer, in lists of n numbers from the work slice. A class that does not split costs one comparison for
 // each of its states.
-ghost use Rattle.std.specs.Prelude.{◌≡◌, [], ℕ, ◌*◌, ◌<◌, ◌≤◌, length};
-ghost use Rattle.counting.specs.Lists.{at};
+ghost use Rattle.std.specs.Prelude.{◌≡◌, ◌*◌, ◌<◌, ◌≤◌, length};
 ghost use Rattle.table.specs.Tables.{machine, unmarked};
 ghost use Rattle.layering.specs.Layered.{AtLayer, Rested, Settled};
 ghost use Rattle.layering.specs.Sized.{Sized};
@@ -126,32 +125,13 @@ fn advance(rooms: &mut Rooms<'_>)
     ensures kept { Kept rooms.old rooms.new }
     ensures moved { Moved (numbers_of rooms.old) (numbers_of rooms.new) }
 {
+    // Borrowed as it is lent, so that its numbers are known to stay.
     let laters = &mut *rooms.laters;
     rooms.names.copy_from_slice(laters);
 }
 
 // Runs rounds from the first names on until none finds a new name; gives how many did.
-fn settle(nexts: &NextStates<'_>, rooms: &mut Rooms<'_>) -> usize
-    requires room { length rooms.old.names.now ≡ nexts.now.sizes.states }
-    requires begun { AtLayer (marked_by nexts.now rooms.old.names.now) 0 rooms.old.names.now rooms.old.births.now rooms.old.parents.now }
-    ensures kept { Kept rooms.old rooms.new }
-    ensures rested { Rested (marked_by nexts.now rooms.old.names.now) rooms.new.names.now rooms.new.births.now rooms.new.parents.now result }
-{
-    let mut i = 0;
-    // A loop without end in its head: that there are fewer rounds than states, the proof knows and no test here.
-    loop {
-        let next = i + 1;
-        let changed = run_round(nexts, rooms, next);
-        if !changed {
-            return i;
-        }
-        advance(rooms);
-        i = next;
-    }
-}
-
-// The same, over the lists one by one.
-fn settle_lists(
+fn settle(
     nexts: &NextStates<'_>,
     names: &mut [u16],
     laters: &mut [u16],
@@ -173,7 +153,17 @@ fn settle_lists(
         parents,
         heads,
     };
-    settle(nexts, &mut rooms)
+    let mut i = 0;
+    // A loop without end in its head: that there are fewer rounds than states, the proof knows and no test here.
+    loop {
+        let next = i + 1;
+        let changed = run_round(nexts, &mut rooms, next);
+        if !changed {
+            return i;
+        }
+        advance(&mut rooms);
+        i = next;
+    }
 }
 
 // Finds the classes of the states by layers: the last layer, with births and parents, and r.
@@ -189,5 +179,5 @@ pub fn find_classes(table: &Table<'_>, work: &mut [u16]) -> usize
     let (births, rest) = rest.split_at_mut(n);
     let (parents, rest) = rest.split_at_mut(n);
     let (heads, _) = rest.split_at_mut(n);
-    settle_lists(&table.nexts, names, laters, links, births, parents, heads)
+    settle(&table.nexts, names, laters, links, births, parents, heads)
 }

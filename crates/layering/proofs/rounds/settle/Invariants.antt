@@ -5,11 +5,11 @@ use Rattle.layering.specs.Work.{marked_by, Kept}
 use Rattle.layering.specs.Layered.{AtLayer}
 use Rattle.layering.proofs.rounds.settle.Given as goal
 
-abbrev pub invariant-loop-i : goal.invariant-loop-i
-invariant-loop-i l = record {
+abbrev pub invariant-loop-rooms : goal.invariant-loop-rooms
+invariant-loop-rooms l = record {
   kept : Kept l.initial.rooms l.rooms;
-  layered : AtLayer (marked_by l.nexts l.initial.rooms.names.now) l.i l.rooms.names.now l.rooms.births.now l.rooms.parents.now;
+  layered : AtLayer (marked_by l.nexts l.fn.names) l.i l.rooms.names.now l.rooms.births.now l.rooms.parents.now;
 }
 
-abbrev pub decreases-loop-i : goal.decreases-loop-i
-decreases-loop-i l = rounds (marked_by l.nexts l.initial.rooms.names.now) - l.i
+abbrev pub decreases-loop-rooms : goal.decreases-loop-rooms
+decreases-loop-rooms l = rounds (marked_by l.nexts l.fn.names) - l.i
