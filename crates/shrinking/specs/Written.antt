@@ -3,6 +3,7 @@ use Rattle.std.specs.Prelude.{◌≡◌, List, ◌∷◌, ◌++◌, ℕ, ◌+◌
 use Rattle.counting.specs.Lists.{at, tab, flat}
 use Rattle.counting.specs.Counts.{place}
 use Rattle.automaton.specs.Machine.{Machine}
+use Rattle.automaton.specs.Quotient.{quotient_by}
 use Rattle.lending.specs.Pairs.{pair}
 use Rattle.table.specs.Encoding.{machine_in, field_of}
 use Rattle.table.specs.declared.tables.NextStates.{NextStates}
@@ -28,6 +29,10 @@ numbers_in n work = take n (drop (2 * n) work)
 
 abbrev pub classes_in : ℕ → List ℕ → List ℕ
 classes_in n work = take n (drop (6 * n) work)
+
+-- the machine over row numbers
+abbrev pub row_machine : Machine → ℕ → List ℕ → Machine
+row_machine M rows work = quotient_by M (classes_in M.size work) (rows_in M.size rows work)
 
 -- so many rows can be written from there
 abbrev pub Writable : Machine → ℕ → List ℕ → Type 0

@@ -1,5 +1,5 @@
 -- The ways out of telling two states apart, each with its facts.
-use mathlib.Core.Path.{◌≡◌, refl, sym, ap, subst, ◌∙◌}
+use mathlib.Core.Path.{◌≡◌, refl, sym, ap, subst, ap₂, ◌∙◌}
 use mathlib.Core.Logic.{◌≢◌}
 use mathlib.Core.List.{List, [], ◌∷◌}
 use Prim.Native.Nat.{ℕ, ◌*◌, ◌-◌, ◌≤◌, ◌<◌}
@@ -19,11 +19,14 @@ use Rattle.lending.specs.Memory.{cleared, written}
 use Rattle.table.specs.Answers.{gives, refuses}
 use Rattle.table.specs.Judging.{judged}
 use Rattle.table.specs.Leaving.{left}
+use Rattle.table.specs.Encoding.{machine_in}
+use Rattle.table.specs.Accepted.{Good}
+use Rattle.table.specs.declared.answer.Sizes.{Sizes}
 use Rattle.table.specs.Tables.{machine, TableOf}
 use Rattle.table.specs.declared.tables.Table.{Table}
 use Rattle.table.proofs.Leavings.{file_refused, file_given, refuses_here, refuses_not}
 use Rattle.table.proofs.Openings.{good_given}
-use Rattle.table.proofs.Handing.{table_machine}
+use Rattle.table.proofs.Handing.{marks_in, nexts_in, machine_is}
 use Rattle.layering.specs.Layered.{InLayer, Settled}
 use Rattle.telling.specs.declared.climbing.LastLayer.{LastLayer}
 use Rattle.telling.specs.Kept.{Keeps}
@@ -90,42 +93,49 @@ pub tell_refused : (file : List ℕ) (p q : ℕ) (work word : List ℕ) {number 
 unfolding tell_leaves
 tell_refused file p q work word e = sym (file_refused file (work ∷ word ∷ []) _ e)
 
--- the ways out of a file whose table is t
-module _ (file : List ℕ) (t : Table) (h : TableOf file t) (p q : ℕ) (work word : List ℕ) where
-  abbrev n : ℕ
-  n = t.nexts.sizes.states
+module _ (file : List ℕ) (z : Sizes) (g : Good file z) (p q : ℕ) (work word : List ℕ) where
+  -- the machine whose bodies the call hands on
+  abbrev M : Machine
+  M = machine_in z.states z.signs z.start (marks_in file z) (nexts_in file z)
 
   abbrev lent : List (List ℕ)
   lent = work ∷ word ∷ []
 
-  given : tell_leaves file p q work word ≡ tell_of (machine t) p q work word
+  given : tell_leaves file p q work word ≡ tell_of M p q work word
   unfolding tell_leaves
-  given = file_given file lent _ (good_given h.good) ∙ ap (λ (N : Machine). tell_of N p q work word) (sym (table_machine h))
+  given = file_given file lent _ (good_given g) ∙ ap (λ (N : Machine). tell_of N p q work word) (sym (machine_is file z g))
 
-  pub tell-first : n ≤ p → left (refuses 10 0) lent ≡ tell_leaves file p q work word
+  pub tell-first : z.states ≤ p → left (refuses 10 0) lent ≡ tell_leaves file p q work word
   unfolding tell_of
-  tell-first l = sym (given ∙ refuses_here 10 0 lent _ (le-leb n p l))
+  tell-first h = sym (given ∙ refuses_here 10 0 lent _ (le-leb z.states p h))
 
-  module _ (k : p < n) where
-    pub tell_second : n ≤ q → left (refuses 10 1) lent ≡ tell_leaves file p q work word
+  module _ (k : p < z.states) where
+    pub tell_second : z.states ≤ q → left (refuses 10 1) lent ≡ tell_leaves file p q work word
     unfolding tell_of
-    tell_second l = sym (given ∙ refuses_not 10 0 lent _ (lt-leb n p k) ∙ refuses_here 10 1 lent _ (le-leb n q l))
+    tell_second h = sym (given ∙ refuses_not 10 0 lent _ (lt-leb z.states p k) ∙ refuses_here 10 1 lent _ (le-leb z.states q h))
 
-    module _ (l : q < n) where
-      pub tell_narrow : length work < 16 * n → left (refuses 11 (16 * n)) lent ≡ tell_leaves file p q work word
+    module _ (l : q < z.states) where
+      pub tell_narrow : length work < 16 * z.states → left (refuses 11 (16 * z.states)) lent ≡ tell_leaves file p q work word
       unfolding tell_of
-      tell_narrow m =
+      tell_narrow h =
           sym
           (given
-          ∙ refuses_not 10 0 lent _ (lt-leb n p k)
-          ∙ refuses_not 10 1 lent _ (lt-leb n q l)
-          ∙ refuses_here 11 (16 * n) lent _ (lt-ltb (length work) (16 * n) m))
+          ∙ refuses_not 10 0 lent _ (lt-leb z.states p k)
+          ∙ refuses_not 10 1 lent _ (lt-leb z.states q l)
+          ∙ refuses_here 11 (16 * z.states) lent _ (lt-ltb (length work) (16 * z.states) h))
 
-      pub tell-spoken : 16 * n ≤ length work → spoken (telling (machine t) p q) (cleared (16 * n) work) word ≡ tell_leaves file p q work word
+      pub tell-spoken : 16 * z.states ≤ length work → spoken (telling M p q) (cleared (16 * z.states) work) word ≡ tell_leaves file p q work word
       unfolding tell_of
-      tell-spoken m =
+      tell-spoken h =
           sym
           (given
-          ∙ refuses_not 10 0 lent _ (lt-leb n p k)
-          ∙ refuses_not 10 1 lent _ (lt-leb n q l)
-          ∙ refuses_not 11 (16 * n) lent _ (le-ltb (length work) (16 * n) m))
+          ∙ refuses_not 10 0 lent _ (lt-leb z.states p k)
+          ∙ refuses_not 10 1 lent _ (lt-leb z.states q l)
+          ∙ refuses_not 11 (16 * z.states) lent _ (le-ltb (length work) (16 * z.states) h))
+
+-- the last of them of a table that is lent from the file
+pub lent_spoken : (file : List ℕ) (t : Table) (h : TableOf file t) (p q : ℕ) (work word : List ℕ) → p < t.nexts.sizes.states → q < t.nexts.sizes.states → 16 * t.nexts.sizes.states ≤ length work
+    → spoken (telling (machine t) p q) (cleared (16 * t.nexts.sizes.states) work) word ≡ tell_leaves file p q work word
+lent_spoken file t h p q work word k l m =
+    ap₂ (λ (marks nexts : List ℕ). spoken (telling (machine_in t.nexts.sizes.states t.nexts.sizes.signs t.nexts.sizes.start marks nexts) p q) (cleared (16 * t.nexts.sizes.states) work) word) h.marks h.nexts
+    ∙ tell-spoken file t.nexts.sizes h.good p q work word k l m

@@ -7,7 +7,7 @@ use Rattle.table.specs.Answers.{gives, refuses}
 use Rattle.table.specs.Leaving.{left}
 use Rattle.table.specs.Tables.{machine}
 use Rattle.shrinking.specs.Written.{file_length}
-use Rattle.shrinking.proofs.ShrinkWays.{lent_writable, shrink_refused, shrink_narrow, shrink_short, shrink_made}
+use Rattle.shrinking.proofs.ShrinkWays.{lent_writable, shrink_refused, shrink_narrow, lent_short, lent_made}
 use native.Mathlib.Omega.{arith}
 use Rattle.shrinking.proofs.shrinks.shrink.Goals as goal
 
@@ -17,7 +17,7 @@ returns-in_err-table c =
     rw (e.1, e.2) (shrink_refused _ _ _ c.in_err-table.ensures)
 
 pub returns-then-work-room : goal.returns-then-work-room
-returns-then-work-room c = shrink_narrow _ _ c.in_ok-table.ensures _ _ c.if-work-room.true
+returns-then-work-room c = shrink_narrow _ _ c.in_ok-table.ensures.good _ _ c.if-work-room.true
 
 pub returns-then-out-length : goal.returns-then-out-length
 returns-then-out-length c =
@@ -25,7 +25,7 @@ returns-then-out-length c =
     let a = c.args in
     let r = c.find_rows-rows.result in
     ap (λ (v : List ℕ). left (refuses 12 (file_length r.count t.nexts.sizes.signs)) (v ∷ a.out.now ∷ [])) c.clear.ensures
-    ∙ shrink_short a.file.now t c.in_ok-table.ensures a.work.now a.out.now (omega (arith, c.if-work-room.false)) c.find_rows-rows.new.work r.count r.takes c.find_rows-rows.ensures c.if-out-length.true
+    ∙ lent_short a.file.now t c.in_ok-table.ensures a.work.now a.out.now (omega (arith, c.if-work-room.false)) c.find_rows-rows.new.work r.count r.takes c.find_rows-rows.ensures c.if-out-length.true
 
 pub write_file-requires-clause-writable : goal.write_file-requires-clause-writable
 write_file-requires-clause-writable c =
@@ -38,4 +38,4 @@ returns c =
     let a = c.args in
     let r = c.find_rows-rows.result in
     ap₂ (λ (v o : List ℕ). left (gives (r.count ∷ file_length r.count t.nexts.sizes.signs ∷ [])) (v ∷ o ∷ [])) c.clear-2.ensures c.write_file.ensures
-    ∙ shrink_made a.file.now t c.in_ok-table.ensures a.work.now a.out.now (omega (arith, c.if-work-room.false)) c.find_rows-rows.new.work r.count r.takes c.find_rows-rows.ensures (omega (arith, c.if-out-length.false))
+    ∙ lent_made a.file.now t c.in_ok-table.ensures a.work.now a.out.now (omega (arith, c.if-work-room.false)) c.find_rows-rows.new.work r.count r.takes c.find_rows-rows.ensures (omega (arith, c.if-out-length.false))

@@ -6,7 +6,7 @@ use Rattle.std.proofs.lemmas.Result.{err_from_is_err_and}
 use Rattle.lending.proofs.Memories.{cleared_same}
 use Rattle.table.specs.Leaving.{left}
 use Rattle.telling.specs.Calls.{told}
-use Rattle.telling.proofs.Ways.{tell_refused, tell-first, tell_second, tell_narrow, tell-spoken}
+use Rattle.telling.proofs.Ways.{tell_refused, tell-first, tell_second, tell_narrow, lent_spoken}
 use native.Mathlib.Omega.{arith}
 use Rattle.telling.proofs.words.tell.Goals as goal
 
@@ -16,13 +16,13 @@ returns-in_err-table c =
     rw (e.1, e.2) (tell_refused _ _ _ _ _ c.in_err-table.ensures)
 
 pub returns-then-n-p : goal.returns-then-n-p
-returns-then-n-p c = tell-first _ _ c.in_ok-table.ensures _ _ _ _ c.if-n-p.true
+returns-then-n-p c = tell-first _ _ c.in_ok-table.ensures.good _ _ _ _ c.if-n-p.true
 
 pub returns-then-n-q : goal.returns-then-n-q
-returns-then-n-q c = tell_second _ _ c.in_ok-table.ensures _ _ _ _ c.if-n-p.false c.if-n-q.true
+returns-then-n-q c = tell_second _ _ c.in_ok-table.ensures.good _ _ _ _ c.if-n-p.false c.if-n-q.true
 
 pub returns-then-work-room : goal.returns-then-work-room
-returns-then-work-room c = tell_narrow _ _ c.in_ok-table.ensures _ _ _ _ c.if-n-p.false c.if-n-q.false c.if-work-room.true
+returns-then-work-room c = tell_narrow _ _ c.in_ok-table.ensures.good _ _ _ _ c.if-n-p.false c.if-n-q.false c.if-work-room.true
 
 pub returns : goal.returns
 returns c =
@@ -33,4 +33,4 @@ returns c =
     ap (λ (w : List ℕ). left (told f.result) (w ∷ f.new.word ∷ []))
     (c.clear.ensures ∙ cleared_same room f.new.work a.work.now f.ensures.beyond.0 (λ j l. f.ensures.beyond.1 j (omega arith)))
     ∙ f.ensures.said
-    ∙ tell-spoken a.file.now t c.in_ok-table.ensures a.p a.q a.work.now a.word.now c.if-n-p.false c.if-n-q.false c.if-work-room.false
+    ∙ lent_spoken a.file.now t c.in_ok-table.ensures a.p a.q a.work.now a.word.now c.if-n-p.false c.if-n-q.false c.if-work-room.false
