@@ -40,7 +40,7 @@ use Rattle.splitting.specs.Work.{lists_in}
 use Rattle.splitting.specs.Starting.{StartedIn}
 use Rattle.splitting.specs.Running.{RanIn}
 use Rattle.splitting.proofs.RunWays.{lists_bare, takes_bare}
-use Rattle.shrinking.specs.Reached.{holds, flagged_below, Found, Flagged, Numbered}
+use Rattle.shrinking.specs.Reached.{holds, flagged_below, FoundIn, Flagged, Numbered}
 use Rattle.shrinking.specs.Written.{WritableBy, rows_in, numbers_in, classes_in}
 use Rattle.shrinking.specs.Found.{RowsFound}
 use Rattle.shrinking.proofs.Promises.{rows_most}
@@ -141,7 +141,7 @@ module _ (t : Table) where
   )
 
   -- the reached states marked, their classes flagged and numbered
-  module _ (reached flags numbers listed : List ℕ) (count : ℕ) (f : Found N reached) (d : Flagged reached (classes M) n flags) (u : Numbered flags n numbers listed count) (long : length flags ≡ n) where
+  module _ (reached flags numbers listed : List ℕ) (count : ℕ) (f : FoundIn N reached) (d : Flagged reached (classes M) n flags) (u : Numbered flags n numbers listed count) (long : length flags ≡ n) where
     marked_reached : (q : ℕ) → q < n → eqb (at reached q) 1 ≡ get_or (reachable M) q false
     marked_reached q l =
         let e = f.marks q l in
@@ -222,7 +222,7 @@ module _ (t : Table) where
   -- what all this leaves in the slice
   module _ (w₀ w₁ w₂ : List ℕ) (takes looked : ℕ) (s : StartedIn (length marks) M.signs marks w₀ w₁) (r : RanIn N 65535 w₁ w₂ takes looked) (room : 8 * n ≤ length w₀) where
     pub rows_found : (rest reached flags numbers listed : List ℕ) (count : ℕ) → rest ≡ drop (4 * n) w₂
-        → Found N reached → Flagged reached (lent_in rest) (length reached) flags → Numbered flags (length flags) numbers listed count
+        → FoundIn N reached → Flagged reached (lent_in rest) (length reached) flags → Numbered flags (length flags) numbers listed count
         → length reached ≡ n → length flags ≡ n → length numbers ≡ n → length listed ≡ n
         → RowsFound M w₀ ((reached ++ (flags ++ (numbers ++ listed))) ++ rest) count takes
     rows_found rest reached flags numbers listed count e f flagged numbered lr lf ln ll = record {

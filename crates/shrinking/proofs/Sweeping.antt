@@ -2,14 +2,16 @@
 use mathlib.Core.Path.{◌≡◌, refl, sym, subst, ◌∙◌}
 use mathlib.Core.Logic.{◌≢◌}
 use mathlib.Core.Bool.{Bool, true, false, ◌||◌, true≢false}
-use mathlib.Core.List.{List, [], ◌∷◌}
+use mathlib.Core.List.{List, [], ◌∷◌, ◌++◌}
 use Prim.Native.Nat.{ℕ, suc, ◌+◌, ◌≤◌, ◌<◌}
 use native.Mathlib.Numerals.{add-one}
 use native.Mathlib.Decide.{ℕ_discrete}
 use native.Mathlib.Omega.{arith}
 use borrow.Author.Tests.{eq-eqb, ne_eqb, eqb-true}
 use lib.Dec.{eqb}
-use lib.ListN.{length, set}
+use lib.ListN.{length, set, drop, length-append, length-drop, get_or-append}
+use Rattle.std.proofs.lemmas.List.{places}
+use Rattle.std.specs.Prelude.{◌↔◌}
 use lib.Seq.{get_or-set_same, get_or-set_other}
 use Rattle.counting.specs.Lists.{at}
 use Rattle.counting.specs.Least.{pick}
@@ -19,7 +21,7 @@ use Rattle.counting.proofs.Tallies.{any_iff, count_more}
 use Rattle.automaton.specs.Machine.{Machine, Lawful}
 use Rattle.automaton.specs.Words.{Word, steps, Reached}
 use Rattle.automaton.proofs.Quotients.{reached_start, reached_next}
-use Rattle.shrinking.specs.Reached.{leads_to, Spread, SpreadMarked, Sound, Swept, Found}
+use Rattle.shrinking.specs.Reached.{leads_to, Spread, SpreadMarked, Sound, Swept, FoundIn, Found}
 
 -- What one state of a sweep leaves: marks are only set, and its own next states are marked where it is.
 record Stepped (M : Machine) (q : ℕ) (before after : List ℕ) (new : Bool) : Type 0 where
@@ -145,7 +147,7 @@ module _ (M : Machine) (g : Lawful M) where
   closed_steps v h x l o (a ∷ by) t = closed_steps v h (M.next x a) (g.next_in x a l t.0) (h x a l t.0 o) by t.1
 
   -- where a sweep marks nothing new, the marked states are those that are reached
-  pub found_quiet : (v u : List ℕ) (new : Bool) → new ≡ false → Swept M v u new → Found M u
+  pub found_quiet : (v u : List ℕ) (new : Bool) → new ≡ false → Swept M v u new → FoundIn M u
   found_quiet v u new t s = record {
     small = s.sound.small;
     marks = λ x l. (s.sound.only x l, λ r. subst (λ (y : ℕ). at u y ≡ 1) r.leads (closed_steps u (s.quiet t) M.start g.start-in s.sound.start r.by r.word));
@@ -161,3 +163,15 @@ fewer_unmarked M v u new t s p =
     unmarked x k e =
         let n : at v x ≢ 1 = λ h. absurd (omega (arith, p.kept x k h)) in
         omega (arith, s.small x k)
+
+-- found in the front of a slice, whose rest is as it was
+pub found_front : (M : Machine) (work reached : List ℕ) → M.size ≤ length work → length reached ≡ M.size → FoundIn M reached → Found M work (reached ++ drop M.size work)
+found_front M work reached room long f = record {
+  long = omega (arith, length-append reached (drop M.size work), length-drop M.size work);
+  small = λ x l. subst (λ (v : ℕ). v ≤ 1) (sym (front x l)) (f.small x l);
+  reached = λ x l. subst (λ (v : ℕ). (v ≡ 1) ↔ Reached M x) (sym (front x l)) (f.marks x l);
+  beyond = λ i l. grind (arith, places);
+}
+  where
+    front : (x : ℕ) → x < M.size → at (reached ++ drop M.size work) x ≡ at reached x
+    front x l = get_or-append reached (drop M.size work) 0 x (omega arith)

@@ -36,9 +36,16 @@ pub record Swept (M : Machine) (before after : List ℕ) (new : Bool) : Type 0 w
   pub busy : new ≡ true → (x : ℕ) × (x < M.size) × (at before x ≡ 0) × (at after x ≡ 1)
 
 -- The marked states are those that are reached; the others have 0.
-pub record Found (M : Machine) (reached : List ℕ) : Type 0 where
+pub record FoundIn (M : Machine) (reached : List ℕ) : Type 0 where
   pub small : (x : ℕ) → x < M.size → at reached x ≤ 1
   pub marks : (x : ℕ) → x < M.size → (at reached x ≡ 1) ↔ Reached M x
+
+-- The same at the front of a slice, and all beyond as it was.
+pub record Found (M : Machine) (before after : List ℕ) : Type 0 where
+  pub long : length after ≡ length before
+  pub small : (x : ℕ) → x < M.size → at after x ≤ 1
+  pub reached : (x : ℕ) → x < M.size → (at after x ≡ 1) ↔ Reached M x
+  pub beyond : (i : ℕ) → M.size ≤ i → at after i ≡ at before i
 
 -- a class that holds one of the first x states that are marked
 unfoldable pub holds : List ℕ → List ℕ → ℕ → ℕ → Bool

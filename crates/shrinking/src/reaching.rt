@@ -2,7 +2,7 @@
 ghost use Rattle.std.specs.Prelude.{◌≡◌, ℕ, ◌<◌, ◌≤◌, length};
 ghost use Rattle.counting.specs.Lists.{at};
 ghost use Rattle.table.specs.Tables.{unmarked};
-ghost use Rattle.shrinking.specs.Reached.{Spread, SpreadMarked, Sound, Swept, Found};
+ghost use Rattle.shrinking.specs.Reached.{Spread, SpreadMarked, Sound, Swept, FoundIn, Found};
 
 use lending::number_at;
 use table::tables::NextStates;
@@ -51,11 +51,20 @@ fn sweep(nexts: &NextStates<'_>, reached: &mut [u16]) -> bool
 }
 
 // Marks the states that are reached, by sweeps until one marks nothing new.
-pub fn find_reached(nexts: &NextStates<'_>, reached: &mut [u16])
+fn mark_reached(nexts: &NextStates<'_>, reached: &mut [u16])
     requires { length reached.old ≡ nexts.now.sizes.states }
-    ensures { Found (unmarked nexts.now) reached.new }
+    ensures { FoundIn (unmarked nexts.now) reached.new }
 {
     reached.fill(0);
     reached[nexts.sizes.start] = 1;
+    // No index is counted: a sweep says whether another is due.
     while sweep(nexts, reached) {}
+}
+
+// Marks the states that are reached, at the front of lent numbers.
+pub fn find_reached(nexts: &NextStates<'_>, work: &mut [u16])
+    requires { nexts.now.sizes.states ≤ length work.old }
+    ensures { Found (unmarked nexts.now) work.old work.new }
+{
+    mark_reached(nexts, &mut work[..nexts.sizes.states]);
 }

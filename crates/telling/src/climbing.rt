@@ -24,6 +24,7 @@ impl LastLayer<'_> {
         ensures { NameIn self.now x layer result }
     {
         let mut name = number_at(self.names, x);
+        // No index is counted: the parents are followed.
         while layer < number_at(self.births, name) {
             name = number_at(self.parents, name);
         }
@@ -63,6 +64,7 @@ impl LastLayer<'_> {
     {
         let mut one = number_at(self.names, p);
         let mut other = number_at(self.names, q);
+        // No index is counted: the way ends in a layer, at the latest in layer 0.
         loop {
             let layer = self.later_birth(one, other);
             if layer == 0 {

@@ -19,7 +19,7 @@ fn differ(last: &LastLayer<'_>, x: usize, y: usize, layer: usize) -> bool
     last.name_in(x, layer) != last.name_in(y, layer)
 }
 
-// The least sign under which the next states of two states have different names in a layer, else the number of signs: no `Option`, since callers know that one is.
+// The least sign under which the next states of two states have different names in a layer, else the number of signs. No `Option`: `PartingSign` promises that number, by `parting_sign` of the machine.
 #[tactic(auto, using(crate::proofs::Spellings::sign_found, crate::proofs::Spellings::sign_none))]
 fn parting_sign(
     nexts: &NextStates<'_>,

@@ -17,5 +17,5 @@ returns c =
     let r = c.run_takes-takes in
     let k = c.number_rows-count in
     rows_found c.args.table.now c.args.work.now c.start_in.new.work r.new.work r.result.takes r.result.entries c.start_in.ensures r.ensures c.requires
-    c.split_at_mut-lists.result.1.now c.find_reached.new.reached c.flag_classes.new.flags k.new.numbers k.new.rows k.result c.split_at_mut-lists.ensures.back
-    c.find_reached.ensures c.flag_classes.ensures k.ensures (omega arith) (omega arith) (omega arith) (omega arith)
+    c.split_at_mut-lists.result.1.now c.find_reached.new.work c.flag_classes.new.flags k.new.numbers k.new.rows k.result c.split_at_mut-lists.ensures.back
+    (record { small = c.find_reached.ensures.small; marks = c.find_reached.ensures.reached }) c.flag_classes.ensures k.ensures (omega arith) (omega arith) (omega arith) (omega arith)

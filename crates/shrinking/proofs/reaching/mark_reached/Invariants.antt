@@ -1,10 +1,10 @@
--- The loop's invariant of `shrinking::reaching::find_reached`: the start and only reached states are marked.
+-- The loop's invariant of `shrinking::reaching::mark_reached`: the start and only reached states are marked.
 use lib.Dec.{eqb}
 use Rattle.counting.specs.Lists.{at}
 use Rattle.counting.specs.Counts.{count}
 use Rattle.table.specs.Tables.{unmarked}
 use Rattle.shrinking.specs.Reached.{Sound}
-use Rattle.shrinking.proofs.reaching.find_reached.Given as goal
+use Rattle.shrinking.proofs.reaching.mark_reached.Given as goal
 
 abbrev pub invariant-loop : goal.invariant-loop
 invariant-loop l = Sound (unmarked l.nexts) l.reached
