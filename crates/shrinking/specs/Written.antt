@@ -9,7 +9,8 @@ use Rattle.table.specs.Encoding.{machine_in, field_of}
 use Rattle.table.specs.declared.tables.NextStates.{NextStates}
 use Rattle.shrinking.specs.declared.writing.RowLists.{RowLists}
 
--- The rows can be written: they are states, and the class of the start and of each next state of a row has the number of its row.
+-- The rows can be written: they are states; there are a number and a class for each state; and the class of the start and of each next state of a row has the
+-- number of its row.
 pub record WritableBy (M : Machine) (rows numbers classes : List ℕ) : Type 0 where
   pub some : 0 < length rows
   pub most : length rows ≤ M.size

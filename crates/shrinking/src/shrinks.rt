@@ -29,7 +29,8 @@ pub struct Rows {
     pub takes: usize,
 }
 
-// Finds the classes by full splitting from fresh lists in the work slice, the states that are reached, and the rows.
+// Finds the classes by full splitting from fresh lists in the work slice, the states that are reached, and the rows. The classes stand from 6 × n on; the first
+// 4 × n numbers then become, n each, the marks of the reached states, the flags of their classes, the row numbers and the rows.
 pub fn find_rows(table: &Table<'_>, work: &mut [u16]) -> Rows
     requires { 8 * table.now.nexts.sizes.states ≤ length work.old }
     ensures { RowsFound (machine table.now) work.old work.new result.count result.takes }

@@ -30,11 +30,11 @@ fn find_word(
 {
     let n = table.nexts.sizes.states;
     find_classes(table, work);
-    let lists = &work[..];
+    let lent = &work[..];
     let last = LastLayer {
-        names: &lists[..n],
-        births: &lists[3 * n..4 * n],
-        parents: &lists[4 * n..5 * n],
+        names: &lent[..n],
+        births: &lent[3 * n..4 * n],
+        parents: &lent[4 * n..5 * n],
     };
     if number_at(last.names, p) == number_at(last.names, q) {
         return Ok(None);
