@@ -14,10 +14,10 @@ use Rattle.lending.specs.Memory.{written}
 use Rattle.lending.specs.Pairs.{pair}
 use Rattle.lending.proofs.Grids.{grid}
 use Rattle.table.specs.Encoding.{field_of, encode}
-use Rattle.table.specs.Tables.{unmarked}
+use Rattle.table.specs.Tables.{unmarked, machine_with}
 use Rattle.table.specs.declared.tables.NextStates.{NextStates}
 use Rattle.table.proofs.Encodings.{encoded_length, encode-agree}
-use Rattle.shrinking.specs.Written.{WritableBy, file_length, machine_with, row_of, sizes_bytes, marks_bytes, row_bytes, rows_bytes}
+use Rattle.shrinking.specs.Written.{WritableBy, file_length, row_of, sizes_bytes, marks_bytes, row_bytes, rows_bytes}
 use Rattle.shrinking.specs.declared.writing.RowLists.{RowLists}
 use Rattle.shrinking.proofs.Stores.{sets-append, sets-written, sizes_length, marks_length}
 

@@ -43,10 +43,6 @@ Writable M rows work = WritableBy M (rows_in M.size rows work) (numbers_in M.siz
 abbrev pub file_length : ℕ → ℕ → ℕ
 file_length rows k = 12 + rows + 3 + 2 * (rows * k)
 
--- the machine of these next states with these marks
-abbrev pub machine_with : NextStates → List ℕ → Machine
-machine_with t marks = machine_in t.sizes.states t.sizes.signs t.sizes.start marks t.bytes.now
-
 -- the row number of a state's class
 abbrev pub row_of : RowLists → ℕ → ℕ
 row_of lists q = at lists.numbers.now (at lists.classes.now q)

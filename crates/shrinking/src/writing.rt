@@ -5,8 +5,8 @@ ghost use Rattle.counting.specs.Lists.{at};
 ghost use Rattle.lending.specs.Memory.{written};
 ghost use Rattle.automaton.specs.Quotient.{quotient_by};
 ghost use Rattle.table.specs.Encoding.{field_of, encode};
-ghost use Rattle.table.specs.Tables.{unmarked};
-ghost use Rattle.shrinking.specs.Written.{WritableBy, file_length, machine_with, row_of, sizes_bytes, marks_bytes, row_bytes, rows_bytes};
+ghost use Rattle.table.specs.Tables.{unmarked, machine_with};
+ghost use Rattle.shrinking.specs.Written.{WritableBy, file_length, row_of, sizes_bytes, marks_bytes, row_bytes, rows_bytes};
 
 use lending::{number_at, put_pair};
 use table::tables::NextStates;

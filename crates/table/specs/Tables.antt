@@ -18,6 +18,10 @@ machine t = machine_in t.nexts.sizes.states t.nexts.sizes.signs t.nexts.sizes.st
 abbrev pub unmarked : NextStates → Machine
 unmarked t = machine_in t.sizes.states t.sizes.signs t.sizes.start [] t.bytes.now
 
+-- the machine of next states with these marks
+abbrev pub machine_with : NextStates → List ℕ → Machine
+machine_with t marks = machine_in t.sizes.states t.sizes.signs t.sizes.start marks t.bytes.now
+
 -- The table is the file's: its sizes, and the bodies of fields 2 and 3.
 pub record TableOf (file : List ℕ) (t : Table) : Type 0 where
   pub good : Good file t.nexts.sizes

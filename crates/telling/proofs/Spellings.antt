@@ -12,6 +12,7 @@ use borrow.Author.Tests.{eq-eqb}
 use lib.Dec.{eqb}
 use lib.ListN.{length, set, length-set}
 use lib.Seq.{get_or-set_same, get_or-set_other}
+use Rattle.table.specs.Tables.{machine_with}
 use Rattle.counting.specs.Lists.{at}
 use Rattle.counting.proofs.Leasts.{least_first, least_none}
 use Rattle.automaton.specs.Machine.{Machine, Lawful}
@@ -25,7 +26,7 @@ use Rattle.lending.specs.Memory.{written}
 use Rattle.lending.proofs.Memories.{written_is}
 use Rattle.table.specs.declared.tables.NextStates.{NextStates}
 use Rattle.table.proofs.Handing.{held_lawful}
-use Rattle.telling.specs.Kept.{states, named, Keeps, Differ, machine_with, PartingSign, PartedBy, Spelled}
+use Rattle.telling.specs.Kept.{states, named, Keeps, Differ, PartingSign, PartedBy, Spelled}
 use Rattle.telling.specs.declared.climbing.LastLayer.{LastLayer}
 
 -- the next state of a state under a sign

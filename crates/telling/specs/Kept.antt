@@ -1,4 +1,5 @@
 -- All layers of a machine, kept by its last layer with births and parents, and what is found from them.
+use Rattle.table.specs.Tables.{machine_with}
 use Rattle.std.specs.Prelude.{◌≡◌, ◌≢◌, Bool, not, List, ℕ, ◌≤◌, ◌<◌, eqb, length}
 use Rattle.counting.specs.Lists.{at}
 use Rattle.automaton.specs.Machine.{Machine}
@@ -45,10 +46,6 @@ Differ last x y i t = (M : Machine) → Keeps M last → i ≤ rounds M → t �
 -- the first layer in which two states have different names
 abbrev pub PartedIn : LastLayer → ℕ → ℕ → ℕ → Type 0
 PartedIn last p q r = (M : Machine) → Keeps M last → (r ≡ depth M p q) × (r ≤ rounds M)
-
--- the machine of these next states with these marks
-abbrev pub machine_with : NextStates → List ℕ → Machine
-machine_with t marks = machine_in t.sizes.states t.sizes.signs t.sizes.start marks t.bytes.now
 
 -- of some marks, with these next states
 abbrev pub KeptIn : NextStates → LastLayer → Type 0
