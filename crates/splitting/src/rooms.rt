@@ -1,6 +1,6 @@
 // The rooms of a take: eight lists in the work slice, n numbers each. Each is lent for itself, so that it is known where a number goes back to.
 
-// The size of each class; the first state that goes from it; how many go; the new name of each state; how many states of each class lead into the class taken;
+// The size of each class; the first state that goes from it, and 0, which never is one, where none does, since these are lent numbers; how many go; the new name of each state; how many states of each class lead into the class taken;
 // the classes of those that do; the class of each state; and its pending.
 #[derive(Drop)]
 pub struct Rooms<'sizes, 'firsts, 'gones, 'renamed, 'leds, 'touched, 'classes, 'pendings> {

@@ -7,7 +7,6 @@ use Rattle.automaton.specs.Layers.{layer, rounds}
 use Rattle.automaton.specs.Births.{birth, parent}
 use Rattle.automaton.specs.Telling.{depth, parting_sign, word_from}
 use Rattle.lending.specs.Memory.{written}
-use Rattle.table.specs.Encoding.{machine_in}
 use Rattle.table.specs.declared.tables.NextStates.{NextStates}
 use Rattle.telling.specs.declared.climbing.LastLayer.{LastLayer}
 
