@@ -1,7 +1,6 @@
 -- The rounds one after the other, over the machine whose kinds are the first names.
 use mathlib.Core.Path.{◌≡◌, subst}
-use mathlib.Core.Bool.{Bool, true, not}
-use borrow.Author.Tests.{not-true}
+use mathlib.Core.Bool.{Bool, true, false}
 use mathlib.Core.List.{List}
 use Prim.Native.Nat.{ℕ, suc, ◌+◌, ◌<◌}
 use native.Mathlib.Numerals.{add-one}
@@ -46,9 +45,9 @@ module _ (t : NextStates) (kinds : List ℕ) where
     unfolding alike_next
     right = r.done.right
 
-    pub round_rests : not b ≡ true → Rested M v.names v.births v.parents i
+    pub round_rests : b ≡ false → Rested M v.names v.births v.parents i
     round_rests u = record {
-      last = quiet_settled M lawful w v i b long h as_next right (not-true b u);
+      last = quiet_settled M lawful w v i b long h as_next right u;
       layered = stays M lawful w v i b long h as_next right;
     }
 

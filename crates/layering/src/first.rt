@@ -33,6 +33,7 @@ pub fn first_names(marks: &Marks<'_>, work: &mut [u16])
 {
     let n = marks.bytes.len();
     mark_names(marks, work);
+    // Where `Begun` says that they stand.
     let births = &mut work[3 * n..4 * n];
     births.fill(0);
 }

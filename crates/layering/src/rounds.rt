@@ -153,17 +153,13 @@ fn settle(
         parents,
         heads,
     };
-    let mut i = 0;
-    // A loop without end in its head: that there are fewer rounds than states, the proof knows and no test here.
-    loop {
-        let next = i + 1;
-        let changed = run_round(nexts, &mut rooms, next);
-        if !changed {
-            return i;
-        }
+    let mut rounds = 0;
+    // No index over a list: a round says whether another is due.
+    while run_round(nexts, &mut rooms, rounds + 1) {
         advance(&mut rooms);
-        i = next;
+        rounds += 1;
     }
+    rounds
 }
 
 // Finds the classes of the states by layers: the last layer, with births and parents, and r.

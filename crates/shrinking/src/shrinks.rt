@@ -38,6 +38,7 @@ pub fn find_rows(table: &Table<'_>, work: &mut [u16]) -> Rows
     let n = table.nexts.sizes.states;
     start_in(&table.marks, table.nexts.sizes.signs, work);
     let takes = run_takes(&table.nexts, 65535, work).takes;
+    // Where `RowsFound` and `RanIn` say that they stand.
     let (lists, rest) = work.split_at_mut(4 * n);
     let (reached, lists) = lists.split_at_mut(n);
     let (flags, lists) = lists.split_at_mut(n);
@@ -73,6 +74,7 @@ pub fn shrink(file: &[u8], work: &mut [u16], out: &mut [u8]) -> Result<Size, Ref
             place: length,
         });
     }
+    // Where `RowsFound` says that they stand.
     let lent = &work[..];
     let lists = RowLists {
         rows: &lent[3 * n..3 * n + rows],

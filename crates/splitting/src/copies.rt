@@ -1,4 +1,4 @@
-// Lists copied into the work slice, and back.
+// Lists copied into the work slice, and back: the first n numbers of a list that may be longer, at a place, as `PutIn` says.
 ghost use Rattle.std.specs.Prelude.{◌≡◌, ◌+◌, ◌≤◌, length, take, drop};
 ghost use Rattle.lending.specs.Memory.{written};
 ghost use Rattle.splitting.specs.Running.{PutIn};

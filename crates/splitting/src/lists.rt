@@ -1,4 +1,4 @@
-// The class and pending lists judged: the first state where one of the four rules fails.
+// The class and pending lists judged: the first state where one of the four rules fails; of each list, which may be longer, the first n numbers.
 ghost use Rattle.std.specs.Prelude.{◌≡◌, not, ◌<◌, ◌≤◌, length};
 ghost use Rattle.counting.specs.Least.{IsFirst};
 ghost use Rattle.refining.specs.Lists.{formed};

@@ -163,6 +163,7 @@ pub fn run(
             place: ill,
         });
     }
+    // The places of the two lists in the one slice are those of `lists_in`.
     copy_in(class, work, 6 * n, n);
     copy_in(pending, work, 7 * n, n);
     let tally = run_takes(&table.nexts, allowed_takes(budget), work);

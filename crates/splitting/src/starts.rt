@@ -86,7 +86,7 @@ pub fn fresh(file: &[u8], class: &mut [u16], pending: &mut [u16]) -> Result<(), 
     Ok(())
 }
 
-// The fresh lists in the work slice: the classes from 6 × n on, and what waits from 7 × n on.
+// The fresh lists in the work slice: the classes from 6 × n on, and what waits from 7 × n on, the places that `StartedIn` names.
 pub fn start_in(marks: &Marks<'_>, signs: usize, work: &mut [u16])
     requires small { signs ≤ 64 }
     requires room { 8 * length marks.now.bytes.now ≤ length work.old }

@@ -118,7 +118,7 @@ pub fn read_marks(file: &[u8], n: usize) -> Result<Part, Refusal>
     }
 }
 
-// The first of m next states that is n or more.
+// The first of m next states, which more bytes may follow, that is n or more.
 pub fn first_bad_next(nexts: &[u8], n: usize, m: usize) -> Option<usize>
     requires { (2 * m ≤ length nexts.now) × (m ≤ 32000) }
     ensures { IsFirst m (λ i. leb n (pair_at nexts.now (2 * i))) result }

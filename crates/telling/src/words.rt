@@ -30,6 +30,7 @@ fn find_word(
 {
     let n = table.nexts.sizes.states;
     find_classes(table, work);
+    // Where `Settled` says that they stand.
     let lent = &work[..];
     let last = LastLayer {
         names: &lent[..n],
