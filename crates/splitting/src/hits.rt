@@ -46,7 +46,8 @@ pub fn count_hits(
     entries
 }
 
-// Sets the counts of the touched classes to 0 again; gives whether some class has states that lead into the class taken, and others.
+// Sets the counts of the touched classes to 0 again; gives whether some class has states that lead into the class taken, and others. The entries stand beside their list, since with a part of it lent the proof
+// did not close: it then loses how long the rooms are.
 #[tactic(auto, using(counting::proofs::Tallies::any_iff), unfolding(crate::specs::Work::some_split))]
 pub fn settle_hits(sizes: &[u16], leds: &mut [u16], touched: &[u16], entries: usize) -> bool
     requires room { (length leds.old ≡ length sizes.now) × (entries ≤ length touched.now) }
