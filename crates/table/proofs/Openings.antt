@@ -4,12 +4,13 @@ use mathlib.Core.List.{List, [], ◌∷◌}
 use Prim.Native.Nat.{ℕ, ◌+◌, ◌*◌, ◌≤◌}
 use native.Mathlib.Omega.{arith}
 use lib.ListN.{length}
-use Rattle.std.specs.Prelude.{Ok}
-use Rattle.table.specs.Answers.{gives, told, told_part}
+use Rattle.std.specs.Prelude.{Result, Ok, Err}
+use Rattle.table.specs.Answers.{Said, gives, refusal, told, told_part}
 use Rattle.table.specs.Judging.{field_due, sizes_due, marks_due, nexts_due, judged, states_of, signs_of, start_of}
 use Rattle.table.specs.Rows.{Whole, InRange, SizesRight, MarksRight, NextsRight, Right}
 use Rattle.table.specs.Accepted.{Good}
 use Rattle.table.specs.declared.answer.Part.{Part}
+use Rattle.table.specs.declared.answer.Refusal.{Refusal}
 use Rattle.table.specs.declared.answer.Sizes.{Sizes}
 use Rattle.table.proofs.Dues.{gives_whole, whole}
 use Rattle.table.proofs.Outcomes.{right_of_lem, sizes, marks, nexts}
@@ -25,6 +26,9 @@ opened {file} {at} {tag} {size} p t =
     let w : Whole file at tag size = gives_whole file at tag size (sym t) in
     let v : gives (p.place ∷ p.length ∷ []) ≡ gives ((at + 3) ∷ size ∷ []) = t ∙ whole file at tag size w in
     record { stands = w; place = cc; length = cc }
+
+pub closed : {s : Result Part Refusal} {r : Refusal} {x : Said} → s ≡ Err r → told_part s ≡ x → x ≡ refusal r
+closed e t = sym t ∙ ap told_part e
 
 -- of sizes that were given: they are the file's, and field 1 is right
 pub record Sized (file : List ℕ) (z : Sizes) : Type 0 where

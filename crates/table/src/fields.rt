@@ -1,5 +1,6 @@
 // The fields of a file: where the body of each stands, the part of the file that it is, and the table that they make.
-ghost use Rattle.std.specs.Prelude.{◌≡◌, ◌+◌, ◌≤◌, length};
+ghost use Rattle.std.specs.Prelude.{◌≡◌, ◌+◌, ◌*◌, ◌<◌, ◌≤◌, length, get_or};
+ghost use Rattle.lending.specs.Pairs.{pair_at};
 ghost use Rattle.table.specs.Rows.{InRange};
 ghost use Rattle.table.specs.Accepted.{Good};
 ghost use Rattle.table.specs.Bodies.{body_in, body_of, PartOf, FieldOf};
@@ -8,6 +9,7 @@ ghost use Rattle.table.specs.Tables.{TableIn};
 use crate::answer::{Part, Refusal, Sizes};
 use crate::judging::judge;
 use crate::tables::{Marks, NextStates, Table};
+use lending::pair_at;
 
 // Where the body of a field stands, of a file of these sizes, which the judging gave. Here and below a field is asked by its number and not by an enum, and the answer for any other is the empty part, since C asks with any number:
 // `body_of` and `FieldOf` promise it.
@@ -67,6 +69,23 @@ pub fn field(file: &[u8], number: usize) -> &[u8]
 {
     let part = part_of(file, number);
     slice_of(file, part.place, part.length)
+}
+
+// The mark of a state, in the body of field 2.
+pub fn mark_of(marks: &[u8], q: usize) -> u8
+    requires { q < length marks.now }
+    ensures { result ≡ get_or marks.now q 0 }
+{
+    marks[q]
+}
+
+// The next state of a state under a sign, in the body of field 3.
+pub fn next_of(nexts: &[u8], signs: usize, q: usize, a: usize) -> usize
+    requires { 2 * (q * signs + a) + 1 < length nexts.now }
+    ensures value { result ≡ pair_at nexts.now (2 * (q * signs + a)) }
+    ensures small { result < 65536 }
+{
+    pair_at(nexts, 2 * (q * signs + a))
 }
 
 // The table in a file, or the refusal of the file. Judges once.

@@ -3,7 +3,7 @@ ghost use Rattle.std.specs.Prelude.{◌≡◌, length};
 ghost use Rattle.table.specs.Encoding.{Held, Marked};
 
 use crate::answer::Sizes;
-use lending::pair_at;
+use crate::fields::{mark_of, next_of};
 
 // The body of field 2.
 #[derive(Clone, Copy)]
@@ -35,7 +35,7 @@ impl Marks<'_> {
         requires { q < length self.now.bytes.now }
         ensures { result ≡ get_or self.now.bytes.now q 0 }
     {
-        self.bytes[q]
+        mark_of(self.bytes, q)
     }
 }
 
@@ -49,6 +49,6 @@ impl NextStates<'_> {
         ensures value { result ≡ pair_at self.now.bytes.now (2 * (q * self.now.sizes.signs + a)) }
         ensures inside { result < self.now.sizes.states }
     {
-        pair_at(self.bytes, 2 * (q * self.sizes.signs + a))
+        next_of(self.bytes, self.sizes.signs, q, a)
     }
 }
