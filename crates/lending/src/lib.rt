@@ -1,4 +1,4 @@
-// Lent memory: numbers of two bytes read from bytes and written to them, the high byte first; lent numbers read, and cleared; one of two by a test.
+// Lent memory: numbers of two bytes read from bytes and written to them, the high byte first; lent numbers read, cleared, and copied; one of two by a test.
 #![tactic(auto)]
 
 ghost use Rattle.std.specs.Prelude.{◌≡◌, ◌+◌, ◌/◌, ◌%◌, ◌<◌, ◌≤◌, length, set};
@@ -33,6 +33,16 @@ pub fn clear(work: &mut [u16], m: usize)
     ensures { work.new ≡ cleared m work.old }
 {
     work[..m].fill(0);
+}
+
+// Copies numbers over others, one by one: std's own copy asks whoever links the static library for a function of C's more.
+pub fn copy_over(from: &[u16], to: &mut [u16])
+    requires { length from.now ≡ length to.old }
+    ensures { to.new ≡ from.now }
+{
+    for i in 0..to.len() {
+        to[i] = from[i];
+    }
 }
 
 // Writes a number of two bytes at a place, the high byte first.

@@ -108,7 +108,7 @@ fn refused_with(changed: usize, byte: u8, number: usize, place: usize) -> bool
 // Whether T1 with a byte behind it is refused at that byte.
 fn refused_behind() -> bool {
     let mut file = [0u8; 41];
-    files::write_table(&samples::T1_MARKS, &samples::T1_NEXTS, 2, &mut file);
+    files::write_table(&samples::t1_marks(), &samples::t1_nexts(), 2, &mut file);
     asking::is_refused(&file, 3, 40)
 }
 

@@ -5,9 +5,7 @@ ghost use Rattle.lending.specs.Memory.{written};
 ghost use Rattle.table.specs.Encoding.{encode};
 ghost use Rattle.selftest.specs.Samples.{sample, pairs, t1, t2, t3, single};
 
-use crate::samples::{
-    SINGLE_MARKS, SINGLE_NEXTS, T1_MARKS, T1_NEXTS, T2_MARKS, T2_NEXTS, T3_MARKS, T3_NEXTS,
-};
+use crate::samples;
 use lending::put_pair;
 use shrinking::writing::write_sizes;
 
@@ -61,23 +59,23 @@ fn file_of<const N: usize>(marks: &[u8], nexts: &[u16], signs: usize) -> [u8; N]
 pub fn t1_file() -> [u8; 40]
     ensures { result ≡ encode t1 }
 {
-    file_of(&T1_MARKS, &T1_NEXTS, 2)
+    file_of(&samples::t1_marks(), &samples::t1_nexts(), 2)
 }
 
 pub fn t2_file() -> [u8; 60]
     ensures { result ≡ encode t2 }
 {
-    file_of(&T2_MARKS, &T2_NEXTS, 2)
+    file_of(&samples::t2_marks(), &samples::t2_nexts(), 2)
 }
 
 pub fn t3_file() -> [u8; 45]
     ensures { result ≡ encode t3 }
 {
-    file_of(&T3_MARKS, &T3_NEXTS, 2)
+    file_of(&samples::t3_marks(), &samples::t3_nexts(), 2)
 }
 
 pub fn single_file() -> [u8; 18]
     ensures { result ≡ encode single }
 {
-    file_of(&SINGLE_MARKS, &SINGLE_NEXTS, 1)
+    file_of(&samples::single_marks(), &samples::single_nexts(), 1)
 }
