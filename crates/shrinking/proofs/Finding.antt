@@ -117,7 +117,7 @@ module _ (t : Table) where
     fresh_lists : lists_in n w₁ ≡ fresh M
     fresh_lists = (started s).lists M.start t.nexts.bytes.now
 
-    classes_found : (lists_in n w₂).class ≡ classes M
+    pub classes_found : (lists_in n w₂).class ≡ classes M
     classes_found =
         ap (λ (l : Split). l.class) (r.lists ∙ ap (run_lists N 65535) fresh_lists ∙ lists_bare n M.signs M.start marks t.nexts.bytes.now 65535 (fresh M))
         ∙ whole_lists 65535 whole_fits

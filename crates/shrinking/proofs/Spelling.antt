@@ -1,7 +1,7 @@
 -- The file of the rows is its parts, one behind the other: field 1 with the head of field 2, the marks, field 3.
 -- Rests on the laws of stores, and on which machine is written.
 use mathlib.Core.Path.{◌≡◌, refl, sym, ap, ◌∙◌}
-use mathlib.Core.List.{List, ◌∷◌, ◌++◌}
+use mathlib.Core.List.{List, [], ◌∷◌, ◌++◌}
 use Prim.Native.Nat.{ℕ, ◌+◌, ◌≤◌}
 use native.Mathlib.Omega.{arith}
 use lib.ListN.{length, length-append}
@@ -13,13 +13,27 @@ use Rattle.automaton.specs.Quotient.{quotient_by}
 use Rattle.lending.specs.Memory.{written}
 use Rattle.lending.specs.Pairs.{pair}
 use Rattle.lending.proofs.Grids.{grid}
-use Rattle.table.specs.Encoding.{field_of, encode}
+use Rattle.table.specs.Encoding.{machine_in, field_of, encode}
 use Rattle.table.specs.Tables.{unmarked, machine_with}
 use Rattle.table.specs.declared.tables.NextStates.{NextStates}
 use Rattle.table.proofs.Encodings.{encoded_length, encode-agree}
 use Rattle.shrinking.specs.Written.{WritableBy, file_length, row_of, sizes_bytes, marks_bytes, row_bytes, rows_bytes}
 use Rattle.shrinking.specs.declared.writing.RowLists.{RowLists}
 use Rattle.shrinking.proofs.Stores.{sets-append, sets-written, sizes_length, marks_length}
+
+-- the marks do not matter to whether the rows can be written
+pub writable_unmarked : (n k start : ℕ) (marks nexts rows numbers classes : List ℕ) → WritableBy (machine_in n k start marks nexts) rows numbers classes
+    → WritableBy (machine_in n k start [] nexts) rows numbers classes
+writable_unmarked n k start marks nexts rows numbers classes w = record {
+  some = w.some;
+  most = w.most;
+  numbered = w.numbered;
+  classed = w.classed;
+  states = w.states;
+  inside = w.inside;
+  start = w.start;
+  nexts = w.nexts;
+}
 
 module _ (t : NextStates) (marks : List ℕ) (lists : RowLists) where
   abbrev M : Machine

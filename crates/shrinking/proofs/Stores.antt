@@ -3,10 +3,10 @@
 use mathlib.Core.Path.{◌≡◌, refl, sym, ap, ◌∙◌}
 use mathlib.Core.List.{List, [], ◌∷◌, ◌++◌}
 use Prim.Native.Nat.{ℕ, suc, ◌+◌, ◌*◌, ◌/◌, ◌%◌, ◌≤◌}
-use native.Mathlib.Nat.{zero-add, add-zero, add-suc, suc-add, mul_comm}
+use native.Mathlib.Nat.{zero-add, add-zero, add-suc, suc-add, mul_comm, mul-le-mul_right}
 use native.Mathlib.Numerals.{add-one}
 use native.Mathlib.Omega.{arith}
-use lib.ListN.{length, set, drop}
+use lib.ListN.{length, set, drop, length-take, length-drop}
 use lib.Seq.{sets, sets-eq}
 use Rattle.counting.specs.Lists.{at, tab, flat}
 use Rattle.counting.proofs.Tabs.{tab-length, tab_more, flat-length, flat_more}
@@ -14,8 +14,8 @@ use Rattle.automaton.specs.Machine.{Machine}
 use Rattle.lending.specs.Memory.{written}
 use Rattle.lending.specs.Pairs.{pair}
 use Rattle.lending.proofs.Grids.{grid_length}
-use Rattle.table.specs.Encoding.{field_of}
-use Rattle.shrinking.specs.Written.{row_of, sizes_bytes, marks_bytes, row_bytes, rows_bytes}
+use Rattle.table.specs.Encoding.{machine_in, Held, field_of}
+use Rattle.shrinking.specs.Written.{Writable, row_of, sizes_bytes, marks_bytes, row_bytes, rows_bytes}
 use Rattle.shrinking.specs.declared.writing.RowLists.{RowLists}
 
 -- stores behind stores
@@ -116,3 +116,11 @@ module _ (M : Machine) (lists : RowLists) (out : List ℕ) where
       ap (λ (s : List ℕ). sets s (p + 2 * (i * M.signs)) (row_bytes M lists i M.signs)) e
       ∙ sets-append out p (rows_bytes M lists i) (row_bytes M lists i M.signs) (p + 2 * (i * M.signs)) (ap (λ (m : ℕ). p + m) (sym (rows-length i)))
       ∙ ap (sets out p) (sym (flat_more i (λ j. row_bytes M lists j M.signs)))
+
+-- the next states of the rows are no more than those of the states
+pub rows_most : (n k start : ℕ) (nexts work : List ℕ) (rows : ℕ) → Held n k start nexts → Writable (machine_in n k start [] nexts) rows work → rows * k ≤ 32000
+rows_most n k start nexts work rows h w = omega (arith, h.range.nexts_most, mul-le-mul_right {m = rows} {n = n} k few)
+  where
+    -- the slice has the classes of n states behind the rows, so the rows in it are as many as they are said to be
+    few : rows ≤ n
+    few = omega (arith, h.range.some_state, w.most, w.classed, length-take rows (drop (3 * n) work), length-take n (drop (6 * n) work), length-drop (3 * n) work, length-drop (6 * n) work)

@@ -95,11 +95,11 @@ module _ (n k start : ℕ) (marks nexts : List ℕ) where
       unfolding marked_pending other rule
       by_counts q l = ap₂ (rule q) counts others ∙ sym (by_rule q l)
 
-      due_fresh : (due q : ℕ) → q < n → Some due ≡ due_of accepting n → pick (is_first due marks q) k 0 ≡ at (fresh machine).pending q
+      pub due_fresh : (due q : ℕ) → q < n → Some due ≡ due_of accepting n → pick (is_first due marks q) k 0 ≡ at (fresh machine).pending q
       unfolding rule
       due_fresh due q l is = first_due q due l ∙ some_due _ _ _ _ _ k is ∙ by_counts q l
 
-      none_fresh : (q : ℕ) → q < n → None ≡ due_of accepting n → 0 ≡ at (fresh machine).pending q
+      pub none_fresh : (q : ℕ) → q < n → None ≡ due_of accepting n → 0 ≡ at (fresh machine).pending q
       unfolding rule
       none_fresh q l is = none_due _ (eqb (at (layer machine 0) q) q) (at marks q) _ k is ∙ by_counts q l
 

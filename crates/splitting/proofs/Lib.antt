@@ -7,6 +7,8 @@ pub mod Divisions
 pub mod Dueness
 pub mod Quietness
 pub mod Balances
+pub mod SliceRooms
+pub mod Slices
 pub mod Sharing
 pub mod Goers
 pub mod Renaming

@@ -15,7 +15,7 @@ use Rattle.counting.specs.Counts.{any, count}
 abbrev pub is_first : ℕ → List ℕ → ℕ → Bool
 is_first due marks q = eqb (at marks q) due && not (any q (λ y. eqb (at marks y) due))
 
-waiting_small : (t : Bool) (k : ℕ) → pick t k 0 ≤ k
+pub waiting_small : (t : Bool) (k : ℕ) → pick t k 0 ≤ k
 unfolding pick
 waiting_small true k = omega arith
 waiting_small false k = omega arith

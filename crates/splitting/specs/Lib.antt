@@ -1,6 +1,7 @@
 -- Classes by splitting, in lent memory.
 pub mod Work
 pub mod Parts
+pub mod Slices
 pub mod Running
 pub mod RunCall
 pub mod Filling
