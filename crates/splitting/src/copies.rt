@@ -3,13 +3,15 @@ ghost use Rattle.std.specs.Prelude.{◌≡◌, ◌+◌, ◌≤◌, length, take,
 ghost use Rattle.lending.specs.Memory.{written};
 ghost use Rattle.splitting.specs.Running.{PutIn};
 
+use lending::copy_over;
+
 // Copies the first n numbers of a list into the work slice, from a place on.
 pub fn copy_in(list: &[u16], work: &mut [u16], place: usize, n: usize)
     requires { (n ≤ length list.now) × (place + n ≤ length work.old) }
     ensures { PutIn list.now place n work.old work.new }
 {
     let end = place + n;
-    work[place..end].copy_from_slice(&list[..n]);
+    copy_over(&list[..n], &mut work[place..end]);
 }
 
 // Copies n numbers of the work slice, from a place on, to the front of a list.
@@ -19,5 +21,5 @@ pub fn copy_out(work: &[u16], place: usize, list: &mut [u16], n: usize)
     ensures { list.new ≡ written (take n (drop place work.now)) list.old }
 {
     let end = place + n;
-    list[..n].copy_from_slice(&work[place..end]);
+    copy_over(&work[place..end], &mut list[..n]);
 }

@@ -6,7 +6,7 @@ ghost use Rattle.splitting.specs.Work.{Classed, Renamed};
 ghost use Rattle.splitting.specs.Parts.{numbers, Fit, Named, Parted, Shared};
 
 use crate::hits::leads;
-use lending::{number_at, one_of};
+use lending::{copy_over, number_at, one_of};
 use table::tables::NextStates;
 
 // Names a state of class c anew: where it goes, by the first of its class that goes.
@@ -113,5 +113,5 @@ pub fn adopt(classes: &mut [u16], renamed: &[u16])
     requires { length renamed.now ≡ length classes.old }
     ensures { classes.new ≡ renamed.now }
 {
-    classes.copy_from_slice(renamed);
+    copy_over(renamed, classes);
 }
