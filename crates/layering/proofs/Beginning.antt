@@ -19,7 +19,7 @@ use Rattle.counting.specs.Lists.{at}
 use Rattle.counting.specs.Least.{name, IsFirst}
 use Rattle.counting.proofs.Leasts.{first_least}
 use Rattle.layering.specs.Layered.{FirstNamed, Unborn, Begun}
-use Rattle.layering.proofs.Emptying.{Zeroed, zeroed}
+use Rattle.layering.proofs.Emptying.{Zeroed, zeroed, zeroed_one}
 
 pub first_named_none : (marks w : List ℕ) → FirstNamed marks 0 w w
 first_named_none marks w = record { long = refl; names = λ x l. absurd (not-suc-le-zero l); beyond = λ i l. refl }
@@ -50,6 +50,11 @@ unborn_more n q r from to w₀ w v f t m z b = record {
   below = λ i l. z.below i (omega arith) ∙ b.below i l;
   beyond = λ i l. z.beyond i (omega arith) ∙ b.beyond i l;
 }
+
+-- the births one state further
+pub unborn_one : (n q : ℕ) (w₀ w : List ℕ) → q < n → 3 * n + q < length w → Unborn n q w₀ w → Unborn n (q + 1) w₀ (set w (3 * n + q) 0)
+unborn_one n q w₀ w l room b =
+    unborn_more n q (q + 1) (3 * n + q) (3 * n + q + 1) w₀ w _ refl (omega arith) (omega arith) (zeroed_one (3 * n + q) w room) b
 
 -- all births filled at once
 pub unborn_filled : (n : ℕ) (w zeros : List ℕ) → 6 * n ≤ length w → zeros ≡ replicate (length (take (4 * n - 3 * n) (drop (3 * n) w))) 0 → Unborn n n w (put_mid (3 * n) (4 * n - 3 * n) w zeros)

@@ -13,20 +13,27 @@ use Rattle.counting.specs.Lists.{at}
 use Rattle.counting.specs.Least.{name}
 use Rattle.counting.proofs.Tallies.{and-true, all_iff}
 use Rattle.counting.proofs.Names.{Alike, name_le, name_alike, name-least, name_iff, name-name}
-use Rattle.automaton.specs.Machine.{Machine}
+use Rattle.automaton.specs.Machine.{Machine, Lawful}
 use Rattle.automaton.specs.Layers.{alike_next}
 use Rattle.automaton.proofs.Alikes.{alike_next_lem}
-use Rattle.layering.specs.Work.{Numbers, mixed, bucket, same_nexts, Named, New, Done}
+use Rattle.layering.specs.Work.{this, Numbers, mixed, bucket, same_nexts, Named, New, Done}
 
 -- mixed are the names of a state and of its next states, and nothing else
-mixed_same : (M : Machine) (names : List ℕ) (y x a : ℕ) → at names y ≡ at names x → ((b : ℕ) → b < a → at names (M.next y b) ≡ at names (M.next x b)) → mixed M names y a ≡ mixed M names x a
+pub mixed_same : (M N : Machine) (w v : List ℕ) (y x k : ℕ) → this w y ≡ this v x → ((a : ℕ) → a < k → this w (M.next y a) ≡ this v (N.next x a)) → (a : ℕ) → a ≤ k → mixed M w y a ≡ mixed N v x a
 unfolding mixed
-mixed_same M names y x zero e h = e
-mixed_same M names y x (suc a) e h = ap₂ (λ (m t : ℕ). (m * 2654435761 + t) % 4294967296) (mixed_same M names y x a e (λ b l. h b (omega arith))) (h a (omega arith))
+mixed_same M N w v y x k e h zero l = e
+mixed_same M N w v y x k e h (suc a) l = ap₂ (λ (m t : ℕ). (m * 2654435761 + t) % 4294967296) (mixed_same M N w v y x k e h a (omega arith)) (h a (omega arith))
 
 pub bucket_below : (M : Machine) (names : List ℕ) (q s : ℕ) → s < M.size → bucket M names q < M.size
 unfolding bucket
 bucket_below M names q s l = mod-lt (mixed M names q M.signs / 65536) (omega arith)
+
+-- one bucket, where this layer's names agree
+pub bucket_same : (M : Machine) → Lawful M → (w v : List ℕ) → ((x : ℕ) → x < M.size → this v x ≡ this w x) → (q : ℕ) → q < M.size → bucket M v q ≡ bucket M w q
+unfolding bucket
+bucket_same M lawful w v h q l =
+    ap (λ (m : ℕ). m / 65536 % M.size)
+    (mixed_same M M v w q q M.signs (h q l) (λ a b. h (M.next q a) (lawful.next_in q a l b)) M.signs (omega arith))
 
 -- Names of the bucket of q from r on up are not alike to q; r is one of them, or 0 where none is left.
 pub record Passed (M : Machine) (w : Numbers) (q r : ℕ) : Type 0 where
@@ -51,7 +58,7 @@ module _ (M : Machine) (names : List ℕ) where
   unfolding bucket same_nexts
   one_bucket y x t =
       let (e, f) = (same_iff y x).0 t in
-      ap (λ (z : ℕ). z / 65536 % M.size) (mixed_same M names y x M.signs e (λ b l. eqb-true _ _ ((all_iff M.signs (λ a. eqb (at names (M.next y a)) (at names (M.next x a)))).0 f b l)))
+      ap (λ (z : ℕ). z / 65536 % M.size) (mixed_same M M names names y x M.signs e (λ b l. eqb-true _ _ ((all_iff M.signs (λ a. eqb (at names (M.next y a)) (at names (M.next x a)))).0 f b l)) M.signs (omega arith))
 
   module _ (q : ℕ) (l : q < M.size) (named : Named M.size names) where
     -- a name that is alike has the class's least state for its name in this layer

@@ -40,13 +40,23 @@ module _ {n : ℕ} {work names laters links births parents heads rest : List ℕ
   at_rest i l = let e = p.long in let s = p.sized in rw p.whole (grind (arith, places))
 
 -- a layer that the slice holds
-parts_hold : {M : Machine} {i : ℕ} {work names laters links births parents heads rest : List ℕ}
+pub parts_hold : {M : Machine} {i : ℕ} {work names laters links births parents heads rest : List ℕ}
     → Parts M.size work names laters links births parents heads rest → InLayer M i work → AtLayer M i names births parents
 parts_hold {M} {i} {names = names} p h = record {
   reached = h.reached;
   named = ext_get_or 0 names (layer M i) (p.long ∙ sym (layer-length M i)) (λ x l. let k : x < M.size = omega (arith, p.long) in at_names p x k ∙ h.names x k);
   born-in = λ c l e. at_births p c l ∙ h.births c l e;
   comes_from = λ c l e f. at_parents p c l ∙ h.parents c l e f;
+}
+
+-- a layer that the lists hold
+pub parts_held : {M : Machine} {i : ℕ} {work names laters links births parents heads rest : List ℕ}
+    → Parts M.size work names laters links births parents heads rest → AtLayer M i names births parents → InLayer M i work
+parts_held p h = record {
+  reached = h.reached;
+  names = λ x l. sym (at_names p x l) ∙ ap (λ (xs : List ℕ). at xs x) h.named;
+  births = λ c l e. sym (at_births p c l) ∙ h.born-in c l e;
+  parents = λ c l e f. sym (at_parents p c l) ∙ h.comes_from c l e f;
 }
 
 -- what the rounds leave in the lists, with the rest of the slice as it was
@@ -56,12 +66,7 @@ parts_settled : {M : Machine} {r : ℕ} {work names laters links births parents 
 parts_settled p q s = record {
   long = (let a = p.long in let b = p.sized in let c = q.long in let d = q.sized in rw (p.whole, q.whole) (grind (arith, places)));
   last = s.last;
-  layered = record {
-    reached = s.layered.reached;
-    names = λ x l. sym (at_names q x l) ∙ ap (λ (xs : List ℕ). at xs x) s.layered.named;
-    births = λ c l e. sym (at_births q c l) ∙ s.layered.born-in c l e;
-    parents = λ c l e f. sym (at_parents q c l) ∙ s.layered.comes_from c l e f;
-  };
+  layered = parts_held q s.layered;
   beyond = λ i l. sym (at_rest q i l) ∙ at_rest p i l;
 }
 

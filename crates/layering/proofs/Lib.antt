@@ -8,6 +8,7 @@ pub mod Descent
 pub mod Beginning
 pub mod Starting
 pub mod Joining
+pub mod Slices
 pub mod Copying
 pub mod Ways
 pub mod Uniqueness

@@ -2,4 +2,5 @@
 pub mod Sized
 pub mod Work
 pub mod Layered
+pub mod Slices
 pub mod Calls

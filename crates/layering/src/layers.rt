@@ -6,7 +6,7 @@ ghost use Rattle.table.specs.Leaving.{left};
 ghost use Rattle.layering.specs.Calls.{told, layers_leave};
 
 use crate::rounds::find_classes;
-use lending::clear;
+use lending::{clear, copy_over};
 use table::answer::{Kind, Refusal};
 use table::fields::table_in;
 
@@ -25,7 +25,7 @@ fn write_names(names: &[u16], res: &mut [u16]) -> usize
     ensures copied { res.new ≡ written names.now res.old }
 {
     let n = names.len();
-    res[..n].copy_from_slice(names);
+    copy_over(names, &mut res[..n]);
     let mut count = 0;
     for q in 0..n {
         count += usize::from(names[q] as usize == q);

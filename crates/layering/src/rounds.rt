@@ -8,7 +8,7 @@ ghost use Rattle.layering.specs.Work.{numbers_of, marked_by, Kept, same_nexts, b
 
 use crate::first::first_names;
 use crate::rooms::Rooms;
-use lending::number_at;
+use lending::{copy_over, number_at};
 use table::tables::{NextStates, Table};
 
 // Whether the next states of two states have the same names in this layer, under every sign.
@@ -127,7 +127,7 @@ fn advance(rooms: &mut Rooms<'_>)
 {
     // Borrowed as it is lent, so that its numbers are known to stay.
     let laters = &mut *rooms.laters;
-    rooms.names.copy_from_slice(laters);
+    copy_over(laters, rooms.names);
 }
 
 // Runs rounds from the first names on until none finds a new name; gives how many did.

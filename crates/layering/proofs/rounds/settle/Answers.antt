@@ -19,7 +19,7 @@ run_round-requires-clause-room c =
     ap length c.loop-rooms.invariant.layered.named ∙ layer-length (marked_by c.args.nexts.now c.args.names.now) c.loop-rooms.rounds
 
 pub run_round-requires-clause-small : goal.run_round-requires-clause-small
-run_round-requires-clause-small c = round_small c.args.nexts.now c.args.names.now c.loop-rooms.invariant.layered
+run_round-requires-clause-small c = omega (arith, round_small c.args.nexts.now c.args.names.now c.loop-rooms.invariant.layered)
 
 pub run_round-requires-clause-named : goal.run_round-requires-clause-named
 run_round-requires-clause-named c =
