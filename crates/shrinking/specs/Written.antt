@@ -5,8 +5,7 @@ use Rattle.counting.specs.Counts.{place}
 use Rattle.automaton.specs.Machine.{Machine}
 use Rattle.automaton.specs.Quotient.{quotient_by}
 use Rattle.lending.specs.Pairs.{pair}
-use Rattle.table.specs.Encoding.{machine_in, field_of}
-use Rattle.table.specs.declared.tables.NextStates.{NextStates}
+use Rattle.table.specs.Encoding.{field_of}
 use Rattle.shrinking.specs.declared.writing.RowLists.{RowLists}
 
 -- The rows can be written: they are states; there are a number and a class for each state; and the class of the start and of each next state of a row has the

@@ -15,6 +15,8 @@ fn spread(nexts: &NextStates<'_>, reached: &mut [u16], q: usize) -> bool
     requires small { (x : ℕ) → x < nexts.now.sizes.states → at reached.old x ≤ 1 }
     ensures { Spread (unmarked nexts.now) q nexts.now.sizes.signs reached.old reached.new result }
 {
+    // A copy, which stays in registers while lent numbers are written.
+    let nexts = *nexts;
     let mut new = false;
     for a in 0..nexts.sizes.signs {
         let next = nexts.next_of(q, a);

@@ -9,6 +9,7 @@ ghost use Rattle.table.specs.Tables.{unmarked, machine_with};
 ghost use Rattle.shrinking.specs.Written.{WritableBy, file_length, row_of, sizes_bytes, marks_bytes, row_bytes, rows_bytes};
 
 use lending::{number_at, put_pair};
+use table::fields::mark_of;
 use table::tables::NextStates;
 
 // The class name of each row, the row number of each class that has one, and the class of each state.
@@ -54,7 +55,7 @@ fn write_marks(marks: &[u8], rows: &[u16], out: &mut [u8])
 {
     for i in 0..rows.len() {
         let place = 12 + i;
-        out[place] = marks[number_at(rows, i)];
+        out[place] = mark_of(marks, number_at(rows, i));
     }
 }
 
