@@ -1,4 +1,4 @@
-// The sample tables: constant arrays of marks and of next states, each handed out by a function that ties it to the list of its name.
+// The sample tables: constant arrays of marks and of next states, each handed out by a function that ties it to the list of its name, since a constant carries no clause.
 ghost use Rattle.std.specs.Prelude.{◌≡◌};
 ghost use Rattle.selftest.specs.Samples.{t1_marks, t1_nexts, t2_marks, t2_nexts, t3_marks, t3_nexts, single_marks, single_nexts, t1_shrunk};
 

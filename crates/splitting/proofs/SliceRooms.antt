@@ -1,4 +1,4 @@
--- The eight parts of the work slice as rooms: they are ready where the slice is, and shared as it is. Rests on the laws of parts of a list.
+-- The eight parts of the work slice as rooms: they are ready where the slice is, shared as it is, and a take of them is one of the slice. Rests on the laws of parts of a list.
 use mathlib.Core.Path.{◌≡◌, refl, sym, ap, ap₂, ◌∙◌}
 use mathlib.Core.Bool.{not, ◌&&◌}
 use mathlib.Core.List.{List}
@@ -13,10 +13,11 @@ use Rattle.std.proofs.lemmas.List.{get_or_past}
 use Rattle.counting.specs.Lists.{at}
 use Rattle.counting.specs.Least.{pick}
 use Rattle.counting.proofs.Parts.{part_at, part_long}
+use Rattle.automaton.specs.Machine.{Machine}
 use Rattle.splitting.specs.declared.rooms.Rooms.{Rooms}
-use Rattle.splitting.specs.Work.{class_in, pending_in, Same, Sized, Ready}
+use Rattle.splitting.specs.Work.{class_in, pending_in, Same, Sized, Ready, Taken}
 use Rattle.splitting.specs.Parts.{Numbers, numbers, kept_pending, new_pending, Shared}
-use Rattle.splitting.specs.Slices.{first_of, ReadyIn, kept_pending_in, new_pending_in, SharedIn}
+use Rattle.splitting.specs.Slices.{first_of, ReadyIn, kept_pending_in, new_pending_in, SharedIn, TakenIn}
 
 -- the part of n numbers from a place on
 abbrev pub part : ℕ → ℕ → List ℕ → List ℕ
@@ -79,6 +80,18 @@ ready_slice n work room r = record {
   firsts = λ c l. sym (part_at n n work c l) ∙ r.firsts c l;
   gones = λ c l. sym (part_at n (2 * n) work c l) ∙ r.gones c l;
   leds = λ c l. sym (part_at n (4 * n) work c l) ∙ r.leds c l;
+}
+
+-- what a take left of the parts, with all beyond as it was, it left of the slice
+pub taken_slice : (M : Machine) (before after : List ℕ) (looked : ℕ) → 8 * M.size ≤ length before → length after ≡ length before → ((i : ℕ) → 8 * M.size ≤ i → at after i ≡ at before i)
+    → Taken M (rooms_in M.size before) (rooms_in M.size after) looked
+    → TakenIn M before after looked
+taken_slice M before after looked room long beyond t = record {
+  long = long;
+  lists = t.lists;
+  looks = t.looks;
+  ready = ready_slice M.size after (omega (arith, long)) t.ready;
+  beyond = beyond;
 }
 
 -- the numbers of the classes in the slice

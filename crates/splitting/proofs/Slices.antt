@@ -20,7 +20,7 @@ use Rattle.splitting.specs.Parts.{numbers, Shared}
 use Rattle.splitting.specs.Slices.{first_of, pending_of, ReadyIn, CountedIn, some_split_in, UnledIn, RenamedIn, SharedIn, AdoptedIn, TakenIn}
 use Rattle.splitting.proofs.Dueness.{Due}
 use Rattle.splitting.proofs.Balances.{taken_quiet, share_fit, taken_split}
-use Rattle.splitting.proofs.SliceRooms.{part, rooms_in, same_in, sized_in, front_at, ready_rooms, ready_slice, numbers_in, shared_parts}
+use Rattle.splitting.proofs.SliceRooms.{part, rooms_in, same_in, sized_in, front_at, ready_rooms, taken_slice, numbers_in, shared_parts}
 
 -- a slice whose first five lists are cleared is as long as it was
 pub mid_long : (n : ℕ) (work mid : List ℕ) → 8 * n ≤ length work → mid ≡ cleared (5 * n) work → length mid ≡ length work
@@ -119,7 +119,7 @@ module _ (M : Machine) (w : List ℕ) (q a : ℕ) (d : Due M (class_in M.size w)
         (part_same n (2 * n) w₂ w (omega (arith, ready.room)) long (λ x l. same (2 * n + x) (omega arith)))
         refl class_same pending_low
         in
-        record { long = long; lists = t.lists; looks = t.looks; ready = ready_slice n w₂ room t.ready; beyond = far }
+        taken_slice M w w₂ looked (omega (arith, ready.room)) long far t
 
     pub still_idle_in : (p : ℕ) → p < q → pending_of n w₂ p ≡ 0
     still_idle_in p l =
@@ -191,10 +191,4 @@ module _ (M : Machine) (w : List ℕ) (q a : ℕ) (d : Due M (class_in M.size w)
             (rooms_in n w₅) (same_in n w w₅) (sized_in n w₅ all_room)
             (adopted_part 0 (omega arith)) (adopted_part n (omega arith)) (adopted_part (2 * n) (omega arith)) leds names pendings
             in
-            record {
-              long = all_long;
-              lists = t.lists;
-              looks = t.looks;
-              ready = ready_slice n w₅ all_room t.ready;
-              beyond = λ i l. adopted.beyond i (omega arith) ∙ shared.beyond i l ∙ renamed.beyond i (omega arith) ∙ far i l;
-            }
+            taken_slice M w w₅ looked (omega (arith, ready.room)) all_long (λ i l. adopted.beyond i (omega arith) ∙ shared.beyond i l ∙ renamed.beyond i (omega arith) ∙ far i l) t
