@@ -35,7 +35,9 @@ pub fn clear(work: &mut [u16], m: usize)
     work[..m].fill(0);
 }
 
-// Copies numbers over others, one by one: std's own copy asks whoever links the static library for a function of C's more.
+// Copies numbers over others, one by one: std's own copy asks whoever links the static library for a function of C's more. Kept out of line, since four copies in line cost a run on a small table more than
+// the calls.
+#[inline(never)]
 pub fn copy_over(from: &[u16], to: &mut [u16])
     requires { length from.now ≡ length to.old }
     ensures { to.new ≡ from.now }
